@@ -1,0 +1,40 @@
+-- Strings of bytes, and their parts: each entry stays below 256. Assumes nothing.
+use mathlib.Core.Path.{_≡_, refl, sym, ap}
+use mathlib.Core.List.{List, [], _∷_, _++_}
+use Prim.Native.Nat.{ℕ, zero, suc, _+_, _<_}
+use native.Mathlib.Omega.{arith}
+use lib.Dec.{lit<}
+use lib.ListN.{length, take, drop, getD, replicate}
+use lib.Seq.{getD-drop}
+use Rattle.cipher.specs.Bytes.{Bytes}
+
+pub Bytes-nil : Bytes []
+Bytes-nil i = lit< tt
+
+pub Bytes-append : (s t : List ℕ) → Bytes s → Bytes t → Bytes (s ++ t)
+Bytes-append [] t h k i = k i
+Bytes-append (x ∷ s) t h k zero = h zero
+Bytes-append (x ∷ s) t h k (suc i) = Bytes-append s t (λ j. h (suc j)) k i
+
+pub Bytes-take : (n : ℕ) (s : List ℕ) → Bytes s → Bytes (take n s)
+Bytes-take zero s h i = lit< tt
+Bytes-take (suc n) [] h i = lit< tt
+Bytes-take (suc n) (x ∷ s) h zero = h zero
+Bytes-take (suc n) (x ∷ s) h (suc i) = Bytes-take n s (λ j. h (suc j)) i
+
+pub Bytes-drop : (n : ℕ) (s : List ℕ) → Bytes s → Bytes (drop n s)
+Bytes-drop n s h i = rw (getD-drop n s i 0) (h (n + i))
+
+pub Bytes-replicate : (n : ℕ) (x : ℕ) → x < 256 → Bytes (replicate n x)
+Bytes-replicate zero x h i = lit< tt
+Bytes-replicate (suc n) x h zero = h
+Bytes-replicate (suc n) x h (suc i) = Bytes-replicate n x h i
+
+pub empty : {A : Type 0} (l : List A) → length l ≡ 0 → [] ≡ l
+empty [] h = refl
+empty (x ∷ l) h = absurd (omega arith)
+
+-- a block of w bytes
+pub record Block (w : ℕ) (b : List ℕ) : Type 0 where
+  pub long : length b ≡ w
+  pub bytes : Bytes b

@@ -1,0 +1,83 @@
+-- The laws of the folds (specs/Fold), over any block cipher and any width above 0. Assumes nothing.
+use mathlib.Core.Path.{_≡_, refl, sym, ap, _∙_}
+use mathlib.Core.List.{List, [], _∷_, _++_}
+use Prim.Native.Nat.{ℕ, zero, suc, _+_, _-_, _*_, _/_, _%_, _≤_, _<_}
+use native.Mathlib.Nat.{sub-zero, div-eq-sub-div, div-eq-of-lt}
+use native.Mathlib.Numerals.{add-one}
+use native.Mathlib.Omega.{arith}
+use lib.ListN.{length, take, drop}
+use lib.Seq.{drop-drop}
+use Rattle.cipher.specs.Fold.{underFrom, underEach, backFrom, underEachBack}
+
+module _ (CIPH : List ℕ → List ℕ → List ℕ) (w : ℕ) where
+  -- a loop forward: what is left to do from the state s, with the keys from `at` on, gives the whole
+  pub record Under (keys s₀ s : List ℕ) (at : ℕ) : Type 0 where
+    pub within : at ≤ length keys
+    pub goal : underFrom CIPH w s ((length keys - at) / w) (drop at keys) ≡ underEach CIPH w keys s₀
+
+  pub under-start : (keys s₀ : List ℕ) → Under keys s₀ s₀ 0
+  unfolding underEach
+  under-start keys s₀ = record { within = omega arith; goal = rw sub-zero }
+
+  pub under-step : {keys s₀ s : List ℕ} {at : ℕ} → 0 < w → Under keys s₀ s at → w ≤ length keys - at → (key t : List ℕ) → key ≡ take w (drop at keys) → t ≡ CIPH key s
+      → Under keys s₀ t (at + w)
+  unfolding underFrom
+  under-step {keys} {s₀} {s} {at} p r h key t e f =
+      let n : length keys - at - w ≡ length keys - (at + w) = omega arith in
+      let m : (length keys - at) / w ≡ suc ((length keys - (at + w)) / w) = div-eq-sub-div p h ∙ add-one _ ∙ ap (λ (k : ℕ). suc (k / w)) n in
+      let g : underFrom CIPH w (CIPH (take w (drop at keys)) s) ((length keys - (at + w)) / w) (drop w (drop at keys)) ≡ underEach CIPH w keys s₀ = rw m at (r .goal) in
+      record { within = omega arith; goal = rw (f, e) (rw drop-drop at g) }
+
+  pub under-done : {keys s₀ s : List ℕ} {at : ℕ} → Under keys s₀ s at → length keys - at < w → s ≡ underEach CIPH w keys s₀
+  unfolding underFrom
+  under-done r h = rw (div-eq-of-lt h) at (r .goal)
+
+  -- a loop backward: s is what the keys from `at` on give
+  pub record Back (keys s₀ s : List ℕ) (at : ℕ) : Type 0 where
+    pub is : s ≡ backFrom CIPH w s₀ ((length keys - at) / w) (drop at keys)
+
+  pub back-start : (keys s₀ : List ℕ) (at : ℕ) → length keys - at < w → Back keys s₀ s₀ at
+  unfolding backFrom
+  back-start keys s₀ at h = record { is = rw (div-eq-of-lt h) }
+
+  pub back-step : {keys s₀ s : List ℕ} {at : ℕ} → 0 < w → Back keys s₀ s (at + w) → at + w ≤ length keys → (key t : List ℕ) → key ≡ take w (drop at keys) → t ≡ CIPH key s
+      → Back keys s₀ t at
+  unfolding backFrom
+  back-step {keys} {s₀} {s} {at} p r h key t e f =
+      let n : length keys - at - w ≡ length keys - (at + w) = omega arith in
+      let m : (length keys - at) / w ≡ suc ((length keys - (at + w)) / w) = div-eq-sub-div p (omega arith) ∙ add-one _ ∙ ap (λ (k : ℕ). suc (k / w)) n in
+      record { is = f ∙ rw (m, e, drop-drop, ← (r .is)) }
+
+  pub back-done : {keys s₀ s : List ℕ} → Back keys s₀ s 0 → s ≡ underEachBack CIPH w keys s₀
+  unfolding underEachBack
+  back-done r = r .is ∙ rw sub-zero
+
+-- ---- the way back undoes the fold, and the fold the way back, for a cipher whose two directions undo one another on good blocks
+module _ (E D : List ℕ → List ℕ → List ℕ) (w : ℕ) (Good : List ℕ → Type 0)
+    (stays : (k b : List ℕ) → Good b → Good (E k b)) (undo : (k b : List ℕ) → Good b → D k (E k b) ≡ b) where
+  back-under-from : (n : ℕ) (s keys : List ℕ) → Good s → backFrom D w (underFrom E w s n keys) n keys ≡ s
+  unfolding underFrom backFrom
+  back-under-from zero s keys g = refl
+  back-under-from (suc n) s keys g =
+      ap (D (take w keys)) (back-under-from n (E (take w keys) s) (drop w keys) (stays (take w keys) s g)) ∙ undo (take w keys) s g
+
+  pub back-under : (keys s : List ℕ) → Good s → underEachBack D w keys (underEach E w keys s) ≡ s
+  unfolding underEach underEachBack
+  back-under keys s g = back-under-from (length keys / w) s keys g
+
+  good-back : (n : ℕ) (s keys : List ℕ) → Good s → Good (backFrom E w s n keys)
+  unfolding backFrom
+  good-back zero s keys g = g
+  good-back (suc n) s keys g = stays (take w keys) (backFrom E w s n (drop w keys)) (good-back n s (drop w keys) g)
+
+  under-back-from : (n : ℕ) (s keys : List ℕ) → Good s → underFrom D w (backFrom E w s n keys) n keys ≡ s
+  unfolding underFrom backFrom
+  under-back-from zero s keys g = refl
+  under-back-from (suc n) s keys g =
+      ap (λ (t : List ℕ). underFrom D w t n (drop w keys)) (undo (take w keys) (backFrom E w s n (drop w keys)) (good-back n s (drop w keys) g))
+      ∙ under-back-from n s (drop w keys) g
+
+  -- with the cipher's directions exchanged: E here is the cipher's D
+  pub under-back : (keys s : List ℕ) → Good s → underEach D w keys (underEachBack E w keys s) ≡ s
+  unfolding underEach underEachBack
+  under-back keys s g = under-back-from (length keys / w) s keys g

@@ -1,0 +1,63 @@
+-- `join` meets its contract: what `wide` gives is below 256. Assumes nothing.
+use mathlib.Core.Path.{refl, _∙_}
+use Prim.Native.Nat.{_<_}
+use native.Mathlib.Omega.{arith}
+use Rattle.cipher.proofs.Words.{_◂_, word-join}
+use borrow.Author.Needs.{needs}
+use Rattle.cipher.proofs.aes.join.Statement.{statement}
+use Rattle.cipher.proofs.aes.join.Tie as tie
+
+wide-requires : tie.Need-wide-requires
+wide-requires c κs = search needs
+
+mul-result : tie.Need-mul-result
+mul-result c = omega arith
+
+wide-requires-2 : tie.Need-wide-requires-2
+wide-requires-2 c κs = search needs
+
+mul-result-2 : tie.Need-mul-result-2
+mul-result-2 c = omega arith
+
+add-result : tie.Need-add-result
+add-result c = omega arith
+
+wide-requires-3 : tie.Need-wide-requires-3
+wide-requires-3 c κs = search needs
+
+mul-result-3 : tie.Need-mul-result-3
+mul-result-3 c = omega arith
+
+add-result-2 : tie.Need-add-result-2
+add-result-2 c = omega arith
+
+wide-requires-4 : tie.Need-wide-requires-4
+wide-requires-4 c κs = search needs
+
+add-result-3 : tie.Need-add-result-3
+add-result-3 c = omega arith
+
+returns : tie.Need-returns
+returns c =
+    let p = c .before .before .before .wide in
+    let q = c .before .before .wide2 in
+    let r = c .before .wide3 in
+    let s = c .wide4 in
+    word-join (p .result) (q .result) (r .result) (s .result) (omega arith) (omega arith) (omega arith) (omega arith)
+    ∙ p .ensures ◂ q .ensures ◂ r .ensures ◂ s .ensures ◂ refl
+
+pub join-spec : {M : Type 1} → statement M
+join-spec =
+    tie.close
+    (tie.spec
+    wide-requires
+    mul-result
+    wide-requires-2
+    mul-result-2
+    add-result
+    wide-requires-3
+    mul-result-3
+    add-result-2
+    wide-requires-4
+    add-result-3
+    returns)

@@ -1,0 +1,60 @@
+use mathlib.Core.Path.{_∙_, ap}
+use mathlib.Core.List.{List}
+use Prim.Native.Nat.{ℕ, _-_}
+use native.Mathlib.Omega.{arith}
+use lib.Dec.{lit<}
+use lib.ListN.{length}
+use Rattle.cipher.specs.Bytes.{wordsBytes}
+use Rattle.cipher.specs.Fips197.{cipher}
+use Rattle.cipher.specs.Sp80038a.{blocks}
+use Rattle.cipher.specs.Sp80038b.{macFrom, R128}
+use Rattle.cipher.proofs.Macs.{cmac-alone, cmac-after}
+use borrow.Author.Needs.{needs}
+use Rattle.cipher.proofs.cmac.mac_after_block.Statement.{statement}
+use Rattle.cipher.proofs.cmac.mac_after_block.Tie as tie
+use Rattle.cipher.proofs.cmac.mac_after_block.Reads as reads
+use Rattle.cipher.proofs.cmac.mac_after_block.Lts as lts
+use Rattle.cipher.proofs.aes.encrypt_with.Reads as encrypt-with-reads
+use Rattle.cipher.proofs.cmac.mac_from.Reads as mac-from-reads
+
+-- src/cmac.rt:135:43
+slice-aggregate-mac-from : tie.Need-slice-aggregate-mac-from
+slice-aggregate-mac-from c = search needs
+
+-- src/cmac.rt:135:9
+mac-from-requires : tie.Need-mac-from-requires
+mac-from-requires c κs = search needs
+
+-- src/cmac.rt:135:9
+returns : tie.Need-returns
+returns c =
+    let a = c .before .before .before .before .before .before .args in
+    c .mac-from .ensures ∙ cmac-alone (cipher (wordsBytes (a .w .now))) 16 R128 (lit< tt) (a .t3) (a .«data» .now) (c .before .before .if1 .taken)
+
+-- src/cmac.rt:137:9
+encrypt-with-requires : tie.Need-encrypt-with-requires
+encrypt-with-requires c κs = search needs
+
+-- src/cmac.rt:138:5
+mac-from-requires-2 : tie.Need-mac-from-requires-2
+mac-from-requires-2 c κs = search needs
+
+-- src/cmac.rt:129:1
+returns-2 : tie.Need-returns-2
+returns-2 c =
+    let a = c .before .before .before .before .before .before .args in
+    let f = c .before .before .if1 .left in
+    c .mac-from2 .ensures
+    ∙ ap (λ (t : List ℕ). macFrom (cipher (wordsBytes (a .w .now))) 16 R128 t (blocks 16 (length (a .«data» .now)) - 1) (a .«data» .now)) (c .before .encrypt-with .ensures)
+    ∙ cmac-after (cipher (wordsBytes (a .w .now))) 16 R128 (lit< tt) (a .t3) (a .«data» .now) (omega arith) (omega arith)
+
+pub mac-after-block-spec : {M : Type 1} → statement M
+mac-after-block-spec =
+    tie.close
+    (tie.spec
+    slice-aggregate-mac-from
+    mac-from-requires
+    returns
+    encrypt-with-requires
+    mac-from-requires-2
+    returns-2)

@@ -1,0 +1,110 @@
+// A block encrypted under each key of a slice in turn, and the way back.
+use crate::aes;
+use crate::bytes;
+use crate::des;
+ghost use mathlib.Core.Path.{_≡_};
+ghost use lib.ListN.{length};
+ghost use Rattle.cipher.specs.AesTables.{TeTable};
+ghost use Rattle.cipher.specs.DesTables.{SpTable, Pc2Table};
+ghost use Rattle.cipher.specs.Fips197.{aesEncrypt};
+ghost use Rattle.cipher.specs.Fips46.{desEncrypt, desDecrypt};
+ghost use Rattle.cipher.specs.Fold.{underEach, underEachBack};
+
+fn encrypt_des_under(sp: &[u32], pc2: &[u32], block: [u8; 8], key: [u8; 8]) -> [u8; 8]
+    requires { ⌜ SpTable (now sp) ⌝ }
+    requires { ⌜ Pc2Table (now pc2) ⌝ }
+    ensures { λ r. ⌜ r ≡ desEncrypt key block ⌝ }
+{
+    let ks = des::schedule(pc2, key);
+    des::encrypt_with(sp, &ks, block)
+}
+
+fn decrypt_des_under(sp: &[u32], pc2: &[u32], block: [u8; 8], key: [u8; 8]) -> [u8; 8]
+    requires { ⌜ SpTable (now sp) ⌝ }
+    requires { ⌜ Pc2Table (now pc2) ⌝ }
+    ensures { λ r. ⌜ r ≡ desDecrypt key block ⌝ }
+{
+    let ks = des::schedule(pc2, key);
+    des::decrypt_with(sp, &ks, block)
+}
+
+fn encrypt_aes128_under(te: &[u32], block: [u8; 16], key: [u8; 16]) -> [u8; 16]
+    requires { ⌜ TeTable (now te) ⌝ }
+    ensures { λ r. ⌜ r ≡ aesEncrypt key block ⌝ }
+{
+    let w = aes::expand(te, key);
+    aes::encrypt_with(te, &w, block)
+}
+
+fn encrypt_des_each(sp: &[u32], pc2: &[u32], block: [u8; 8], keys: &[u8]) -> [u8; 8]
+    requires { ⌜ SpTable (now sp) ⌝ }
+    requires { ⌜ Pc2Table (now pc2) ⌝ }
+    ensures { λ r. ⌜ r ≡ underEach desEncrypt 8 (now (keys .entry)) block ⌝ }
+{
+    let mut state = block;
+    let mut at = 0;
+    while 8 <= keys.len() - at {
+        let key = bytes::load8(keys, at);
+        let next = encrypt_des_under(sp, pc2, state, key);
+        state = next;
+        at += 8;
+    }
+    state
+}
+
+fn decrypt_des_each(sp: &[u32], pc2: &[u32], block: [u8; 8], keys: &[u8]) -> [u8; 8]
+    requires { ⌜ SpTable (now sp) ⌝ }
+    requires { ⌜ Pc2Table (now pc2) ⌝ }
+    ensures { λ r. ⌜ r ≡ underEachBack desDecrypt 8 (now (keys .entry)) block ⌝ }
+{
+    let mut state = block;
+    let mut at = keys.len() / 8 * 8;
+    while 0 < at {
+        at -= 8;
+        let key = bytes::load8(keys, at);
+        let next = decrypt_des_under(sp, pc2, state, key);
+        state = next;
+    }
+    state
+}
+
+fn encrypt_aes128_each(te: &[u32], block: [u8; 16], keys: &[u8]) -> [u8; 16]
+    requires { ⌜ TeTable (now te) ⌝ }
+    ensures { λ r. ⌜ r ≡ underEach aesEncrypt 16 (now (keys .entry)) block ⌝ }
+{
+    let mut state = block;
+    let mut at = 0;
+    while 16 <= keys.len() - at {
+        let key = bytes::load16(keys, at);
+        let next = encrypt_aes128_under(te, state, key);
+        state = next;
+        at += 16;
+    }
+    state
+}
+
+// block encrypted under the first 8 bytes of keys, then under the next, and so on; bytes after the last whole key play no part.
+pub fn encrypt_des_under_each(block: [u8; 8], keys: &[u8]) -> [u8; 8]
+    ensures { λ r. ⌜ r ≡ underEach desEncrypt 8 (now (keys .entry)) block ⌝ }
+{
+    let sp = des::SP;
+    let pc2 = des::PC2;
+    encrypt_des_each(&sp, &pc2, block, keys)
+}
+
+// The way back: block decrypted under the last whole key first.
+pub fn decrypt_des_under_each(block: [u8; 8], keys: &[u8]) -> [u8; 8]
+    ensures { λ r. ⌜ r ≡ underEachBack desDecrypt 8 (now (keys .entry)) block ⌝ }
+{
+    let sp = des::SP;
+    let pc2 = des::PC2;
+    decrypt_des_each(&sp, &pc2, block, keys)
+}
+
+// The same as encrypt_des_under_each with AES-128 and keys of 16 bytes.
+pub fn encrypt_aes128_under_each(block: [u8; 16], keys: &[u8]) -> [u8; 16]
+    ensures { λ r. ⌜ r ≡ underEach aesEncrypt 16 (now (keys .entry)) block ⌝ }
+{
+    let te = aes::TE;
+    encrypt_aes128_each(&te, block, keys)
+}

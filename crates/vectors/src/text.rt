@@ -1,0 +1,118 @@
+// The text of a data file: its lines, the fields of a line, and hex.
+ghost use Prim.Native.Nat.{_*_, _≤_};
+ghost use lib.ListN.{length};
+
+// What `decode` answers for a field that is no byte string, or too long: more than any field has.
+pub const BAD: usize = 18446744073709551615;
+
+// Where the line that starts at `from` ends: at its line end, or where the text ends without one.
+pub(crate) fn line_end(text: &[u8], from: usize) -> usize
+    requires { ⌜ from ≤ length (now text) ⌝ }
+    ensures { λ r. ⌜ (from ≤ r) × (r ≤ length (now (text .entry))) ⌝ }
+{
+    let mut i = from;
+    while i < text.len() {
+        if text[i] == b'\n' {
+            return i;
+        }
+        i += 1;
+    }
+    i
+}
+
+// How many blanks a line has: one fewer than it has fields.
+pub(crate) fn blanks(line: &[u8]) -> usize {
+    let mut n: usize = 0;
+    let mut i = 0;
+    while i < line.len() {
+        if line[i] == b' ' {
+            n += 1;
+        }
+        i += 1;
+    }
+    n
+}
+
+// Field k of a line, counted from 0. A field that is not there is empty.
+pub(crate) fn field(line: &[u8], k: usize) -> &[u8] {
+    let mut left = k;
+    let mut from = 0;
+    let mut i = 0;
+    while i < line.len() {
+        if line[i] == b' ' {
+            if left == 0 {
+                return &line[from..i];
+            }
+            left -= 1;
+            from = i + 1;
+        }
+        i += 1;
+    }
+    if left == 0 {
+        return &line[from..];
+    }
+    &line[0..0]
+}
+
+// Whether a field is the sign for the empty byte string.
+pub(crate) fn is_none(text: &[u8]) -> bool {
+    if text.len() != 1 {
+        return false;
+    }
+    text[0] == b'-'
+}
+
+// Puts the bytes of a line's field k at the start of out, and answers how many they are, or BAD.
+pub(crate) fn decode(line: &[u8], k: usize, out: &mut [u8]) -> usize {
+    let text = field(line, k);
+    if is_none(text) {
+        return 0;
+    }
+    let n = text.len() / 2;
+    if n == 0 {
+        return BAD;
+    }
+    if text.len() % 2 != 0 {
+        return BAD;
+    }
+    if n > out.len() {
+        return BAD;
+    }
+    if fill(text, n, out) { n } else { BAD }
+}
+
+// The first n bytes of a hex text, to the start of out. False at a character that is no digit.
+fn fill(text: &[u8], n: usize, out: &mut [u8]) -> bool
+    requires { ⌜ n * 2 ≤ length (now text) ⌝ }
+    requires { ⌜ n ≤ length (now out) ⌝ }
+{
+    let mut i = 0;
+    while i < n {
+        let high = digit(text[i * 2]);
+        let low = digit(text[i * 2 + 1]);
+        if high > 15 {
+            return false;
+        }
+        if low > 15 {
+            return false;
+        }
+        out[i] = high * 16 + low;
+        i += 1;
+    }
+    true
+}
+
+// What a hex digit stands for, in lower case alone; 16 for any other character.
+fn digit(c: u8) -> u8 {
+    if c >= b'0' {
+        if c <= b'9' {
+            return c - b'0';
+        }
+    }
+    if c >= b'a' {
+        if c <= b'f' {
+            return c - b'a' + 10;
+        }
+    }
+    16
+}
