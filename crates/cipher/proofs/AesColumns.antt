@@ -1,11 +1,11 @@
 -- A column of the state by a table of words: what each byte's word, rotated to the byte's row, adds up to. Assumes nothing.
 use mathlib.Core.Path.{_≡_, refl, sym, ap, ap₂, _∙_}
-use mathlib.Core.List.{List, [], _∷_, _++_, map}
+use mathlib.Core.List.{List, [], _∷_, map}
 use Prim.Native.Nat.{ℕ, _+_, _*_, _/_, _%_, _<_}
 use lib.ListN.{getD}
 use lib.Bits.{bitXor, xor-comm}
 use Rattle.cipher.specs.Bytes.{tab, _⊕_, wordBytes}
-use Rattle.cipher.specs.Fips197.{_•_, addTimes, ifBit, sBox, cell, mixed}
+use Rattle.cipher.specs.Fips197.{_•_, addTimes, ifBit, sBox, invSBox, cell, mixed}
 use Rattle.cipher.specs.AesTables.{diagonal, rotRight, mixedColumn, MixTable, TeTable}
 use Rattle.cipher.proofs.Xor.{xor-assoc}
 use Rattle.cipher.proofs.Words.{_◂_, low, word-xor, word-join}
@@ -67,3 +67,10 @@ substituted-made t m a b c d =
     word-join _ _ _ _ (low _) (low _) (low _) (low _)
     ∙ te-second t m (a / 16777216 % 256) (low _) ◂ te-second t m (b / 65536 % 256) (low _) ◂ te-third t m (c / 256 % 256) (low _)
     ◂ te-third t m (d % 256) (low _) ◂ refl
+
+-- a column of the inverse cipher: the diagonal of one word is its bytes
+pub inv-column-made : (a b c d k s r : ℕ) → wordBytes s ≡ map invSBox (diagonal a b c d)
+    → wordBytes r ≡ mixedColumn 0x0e 0x0b 0x0d 0x09 (map (λ x. x) (diagonal (bitXor s k) (bitXor s k) (bitXor s k) (bitXor s k)))
+    → wordBytes r ≡ mixedColumn 0x0e 0x0b 0x0d 0x09 (map invSBox (diagonal a b c d) ⊕ wordBytes k)
+unfolding diagonal wordBytes
+inv-column-made a b c d k s r p q = q ∙ ap (mixedColumn 0x0e 0x0b 0x0d 0x09) (word-xor s k ∙ ap (λ (t : List ℕ). t ⊕ wordBytes k) p)

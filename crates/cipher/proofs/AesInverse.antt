@@ -7,10 +7,12 @@ use native.Mathlib.Omega.{arith}
 use lib.Dec.{T, lit≤}
 use lib.ListN.{length, getD, length-map}
 use lib.Bits.{bitXor}
-use Rattle.cipher.specs.Bytes.{Bytes, tab, _⊕_}
-use Rattle.cipher.specs.Fips197.{xtime, _•_, sBox, subBytes, cell, shiftRows, mixed, mixColumns, addRoundKey, keyExpansion, roundKey, rounds, cipher, invSBox, invShiftRows, invSubBytes, invMixColumns, invRounds, invCipher, aesEncrypt, aesDecrypt}
+use Rattle.cipher.specs.Bytes.{Bytes, tab}
+use Rattle.cipher.specs.Fips197.{_•_, sBox, subBytes, cell, shiftRows, mixed, mixColumns, addRoundKey, keyExpansion, roundKey, rounds, cipher, invSBox, invShiftRows, invSubBytes, invMixColumns, invRounds, invCipher, aesEncrypt, aesDecrypt}
 use Rattle.cipher.proofs.Xor.{⊕-twice}
-use Rattle.cipher.proofs.Words.{_◂_, listed, length-tab, Bytes-tab, map-undone}
+use Rattle.cipher.proofs.ByteLists.{Bytes-tab}
+use Rattle.cipher.proofs.Tabs.{listed, length-tab}
+use Rattle.cipher.proofs.Words.{_◂_, map-undone}
 use Rattle.cipher.proofs.Linear.{Sum, var, _⊞_, product, value, product-value, same, equal}
 use Rattle.cipher.proofs.AesTables.{invSBox-sBox, sBox-invSBox}
 use Rattle.cipher.proofs.AesLengths.{keyExpansion-long, keyExpansion-bytes, roundKey-long, added-long, added-bytes, shifted-long, unshifted-long, subBytes-bytes, invShiftRows-bytes, invSubBytes-bytes, mixed-byte}

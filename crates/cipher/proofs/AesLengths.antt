@@ -1,17 +1,16 @@
 -- How long the key schedule and the results of the cipher and its inverse are, and that they are made of bytes. Assumes nothing.
-use mathlib.Core.Path.{_≡_, refl, sym, ap, _∙_}
-use mathlib.Core.List.{List, [], _∷_, _++_, map}
+use mathlib.Core.Path.{_≡_, refl, _∙_}
+use mathlib.Core.List.{List, _++_, map}
 use Prim.Native.Nat.{ℕ, zero, suc, _+_, _-_, _*_, _/_, _%_, _≤_, _<_}
-use native.Mathlib.Nat.{le-of-eq}
 use native.Mathlib.Omega.{arith}
 use lib.Dec.{lit<, lit≤}
-use lib.ListN.{length, take, drop, getD, length-append, length-drop, length-map}
+use lib.ListN.{length, take, drop, length-append, length-drop, length-map}
 use lib.Seq.{length-take-le}
-use lib.Bits.{bitXor}
 use Rattle.cipher.specs.Bytes.{Bytes, tab, _⊕_}
-use Rattle.cipher.specs.Fips197.{_•_, sBox, subBytes, cell, shiftRows, mixed, mixColumns, addRoundKey, word, rotWord, power, rcon, keyTemp, nextWord, keyWords, keyExpansion, roundKey, rounds, cipher, invSBox, invShiftRows, invSubBytes, invMixColumns, invRounds, invCipher, aesEncrypt, aesDecrypt}
+use Rattle.cipher.specs.Fips197.{sBox, subBytes, cell, shiftRows, mixed, addRoundKey, word, rotWord, rcon, keyTemp, nextWord, keyWords, keyExpansion, roundKey, cipher, invSBox, invShiftRows, invSubBytes, invCipher, aesEncrypt, aesDecrypt}
 use Rattle.cipher.proofs.Xor.{xor-byte, length-⊕, Bytes-⊕}
-use Rattle.cipher.proofs.Words.{length-tab, Bytes-tab, Bytes-map, Bytes-take, Bytes-drop, Bytes-append}
+use Rattle.cipher.proofs.ByteLists.{Bytes-tab, Bytes-map, Bytes-take, Bytes-drop, Bytes-append}
+use Rattle.cipher.proofs.Tabs.{length-tab}
 use Rattle.cipher.proofs.AesBytes.{times-byte, power-byte, sBox-byte, invSBox-byte}
 
 -- two strings of one length

@@ -1,11 +1,10 @@
 -- The rounds of the cipher on four words, from what the calls in a turn of the code ensure. Assumes nothing.
 use mathlib.Core.Path.{_≡_, refl, sym, ap, ap₂, _∙_}
-use mathlib.Core.List.{List, [], _∷_, _++_, map}
+use mathlib.Core.List.{List, [], _∷_, map}
 use Prim.Native.Nat.{ℕ, suc, _+_, _-_, _*_, _≤_, _<_}
 use native.Mathlib.Numerals.{add-one}
 use native.Mathlib.Omega.{arith}
-use lib.ListN.{length, take, drop, getD}
-use lib.Bits.{bitXor}
+use lib.ListN.{length, getD}
 use Rattle.cipher.specs.Bytes.{tab, _⊕_, wordBytes, wordsBytes}
 use Rattle.cipher.specs.Fips197.{sBox, subBytes, cell, shiftRows, mixed, mixColumns, addRoundKey, roundKey, rounds, cipher, invSBox, invSubBytes, invShiftRows, invMixColumns, invRounds, invCipher}
 use Rattle.cipher.specs.AesTables.{diagonal, mixedColumn}

@@ -1,7 +1,7 @@
 -- The key schedule, four words at a time, from what the calls in a turn of the code ensure. Assumes nothing.
 use mathlib.Core.Path.{_≡_, refl, sym, ap, ap₂, _∙_}
 use mathlib.Core.List.{List, [], _∷_, _++_, map, append-assoc}
-use Prim.Native.Nat.{ℕ, zero, suc, _+_, _-_, _*_, _/_, _%_, _^_, _≤_, _<_}
+use Prim.Native.Nat.{ℕ, suc, _+_, _-_, _*_, _/_, _%_, _≤_, _<_}
 use native.Mathlib.Nat.{le-antisymm}
 use native.Mathlib.Numerals.{add-one, add-two, add-three}
 use native.Mathlib.Omega.{arith}
@@ -11,6 +11,7 @@ use lib.Seq.{drop-append-add, drop-cons, take-at, take-all, sets, sets-eq, lengt
 use lib.Bits.{bitXor}
 use Rattle.cipher.specs.Bytes.{_⊕_, wordBytes, wordsBytes}
 use Rattle.cipher.specs.Fips197.{xtime, sBox, word, rotWord, power, rcon, keyTemp, nextWord, keyWords, keyExpansion}
+use Rattle.cipher.specs.AesTables.{diagonal}
 use Rattle.cipher.proofs.Xor.{⊕-assoc}
 use Rattle.cipher.proofs.Words.{_◂_, word-xor, words-append, words-length, words-drop}
 use Rattle.cipher.proofs.AesBytes.{power-byte}
@@ -98,12 +99,12 @@ stored w vs k h =
       take-at (take k w ++ vs) (drop (k + length vs) w) (k + length vs) m,
     )
 
-module _ {key w : List ℕ} {a b c d p n : ℕ} (i : Schedule key w a b c d p n) (h : n < 10) (g : ℕ)
-    (s : wordBytes g ≡ map sBox (rotWord (wordBytes d))) where
+module _ {key w : List ℕ} {a b c d p n : ℕ} (i : Schedule key w a b c d p n) (h : n < 10) (t g : ℕ) (r : wordBytes t ≡ rotWord (wordBytes d))
+    (s : wordBytes g ≡ map sBox (diagonal t t t t)) where
   pub schedule-step : (a′ b′ c′ d′ : ℕ) → a′ ≡ bitXor (bitXor a g) (p * 16777216) → b′ ≡ bitXor b a′ → c′ ≡ bitXor c b′ → d′ ≡ bitXor d c′
       → Schedule key (set (set (set (set w (4 * n + 4) a′) (4 * n + 4 + 1) b′) (4 * n + 4 + 2) c′) (4 * n + 4 + 3) d′) a′ b′ c′ d′
       (bitXor (p * 2 % 256) (p / 128 % 2 * 27)) (n + 1)
-  unfolding power xtime
+  unfolding power xtime diagonal wordBytes
   schedule-step a′ b′ c′ d′ ea eb ec ed =
       let q : List ℕ = wordsBytes (take (4 * n) w) in
       let us : List ℕ = a ∷ b ∷ c ∷ d ∷ [] in
@@ -121,7 +122,7 @@ module _ {key w : List ℕ} {a b c d p n : ℕ} (i : Schedule key w a b c d p n)
         ends = rw k (st .1 ∙ ap (λ (t : List ℕ). t ++ vs) (sym (st .0)));
         done = rw k (ap wordsBytes (st .1 ∙ ap (λ (t : List ℕ). t ++ vs) (i .ends) ∙ append-assoc (take (4 * n) w) us vs)
             ∙ words-append (take (4 * n) w) (us ++ vs)
-            ∙ sym (four-more key q a b c d g n l (sym (i .done) ∙ ap wordsBytes (i .ends) ∙ words-append (take (4 * n) w) us) s a′ b′ c′ d′
+            ∙ sym (four-more key q a b c d g n l (sym (i .done) ∙ ap wordsBytes (i .ends) ∙ words-append (take (4 * n) w) us) (s ∙ ap (map sBox) r) a′ b′ c′ d′
             (ea ∙ ap (λ (x : ℕ). bitXor (bitXor a g) (x * 16777216)) (i .rcon)) eb ec ed));
       })
 

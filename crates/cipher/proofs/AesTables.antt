@@ -124,6 +124,10 @@ invS =
 
 -- ---- their rules
 
+-- a test of each entry of a table of 256
+entries : (t : List ℕ) → length t ≡ 256 → (f : ℕ → ℕ → Bool) → T (every f 0 t) → (k : ℕ) → k < 256 → T (f k (getD t k 0))
+entries t l f test k h = at f t test k (rw l h)
+
 -- the four bytes of the word x are the products with y
 fourBytes : ℕ → ℕ → ℕ → ℕ → ℕ → ℕ → Bool
 fourBytes a0 a1 a2 a3 y x =
@@ -148,7 +152,7 @@ module _ (a0 a1 a2 a3 : ℕ) (f : ℕ → ℕ) where
 
   mix-table : (t : List ℕ) → length t ≡ 256 → T (every mixTest 0 t) → MixTable a0 a1 a2 a3 f t
   unfolding mixTest
-  mix-table t l test = record { size = l; entry = λ k h. four-bytes a0 a1 a2 a3 (f k) (getD t k 0) (at mixTest t test k (rw l h)) }
+  mix-table t l test = record { size = l; entry = λ k h. four-bytes a0 a1 a2 a3 (f k) (getD t k 0) (entries t l mixTest test k h) }
 
 pub te-rule : TeTable te
 unfolding te mixTest fourBytes xtime ifBit addTimes _•_ timesSquares inverse bit fromBits tab affine sBox
@@ -159,10 +163,6 @@ unfolding u mixTest fourBytes xtime ifBit addTimes _•_
 u-rule = mix-table 0x0e 0x0b 0x0d 0x09 (λ x. x) u refl tt
 
 -- ---- the inverse in GF(2^8) and the S-boxes, by the tables
-
--- a test of each entry of a table of 256
-entries : (t : List ℕ) → length t ≡ 256 → (f : ℕ → ℕ → Bool) → T (every f 0 t) → (k : ℕ) → k < 256 → T (f k (getD t k 0))
-entries t l f test k h = at f t test k (rw l h)
 
 affineTest : ℕ → Bool
 affineTest b = eqb (invAffine (affine b)) b

@@ -10,11 +10,12 @@ use native.Mathlib.Omega.{arith}
 use lib.Arith.{digits-div, digits-mod, digits-lt, lt-one}
 use borrow.Author.Tests.{le-leb, lt-leb}
 use lib.Dec.{leb, lit<, T}
-use lib.ListN.{length, take, drop, getD, replicate, length-append, length-replicate, replicate-append-replicate, length-take, length-drop}
-use lib.Seq.{take-at, drop-at}
+use lib.ListN.{length, take, drop, getD, replicate, length-append, length-replicate, replicate-append-replicate, length-take, length-drop, take-append-drop}
+use lib.Seq.{take-at, drop-at, length-take-le}
 use lib.Pow.{pow-pos, pow-mono, pow-add, shr-shr, shl-shr, field, mod-mod-pow, split, high, low, shr-lt}
 use lib.Bits.{bitXor, bitAnd, differ, and-step, xor-shr, and-shr, block-half, block-odd, shifted-even}
-use Rattle.cipher.specs.Bits.{bool, digit, bits, num, numFrom, differs, _⊞_}
+use Rattle.cipher.specs.Bits.{bool, digit, bits, num, numFrom, differs, _⊞_, toBits, toBytes}
+use Rattle.cipher.specs.Bytes.{Bytes}
 use Rattle.cipher.specs.Fips46.{select, leftShift}
 use Rattle.cipher.specs.DesTables.{among}
 use Rattle.cipher.proofs.Xor.{xor-odd}
@@ -255,6 +256,47 @@ pub num-lt : (l : List Bool) → num l < 2 ^ length l
 unfolding num
 num-lt l = rw zero-add at (numFrom-lt 0 0 l (lit< tt))
 
+-- a string of bits by its places
+pub down-num : (n : ℕ) (l : List Bool) → length l ≡ n → l ≡ down n (bitAt (num l))
+down-num n l h = sym (bits-num n l h) ∙ bits-down n (num l)
+
+-- ---- strings of bytes
+
+pub length-toBytes : (n : ℕ) (b : List Bool) → length (toBytes n b) ≡ n
+unfolding toBytes
+length-toBytes zero b = refl
+length-toBytes (suc n) b = ap suc (length-toBytes n (drop 8 b))
+
+pub Bytes-toBytes : (n : ℕ) (b : List Bool) → Bytes (toBytes n b)
+unfolding toBytes
+Bytes-toBytes zero b i = lit< tt
+Bytes-toBytes (suc n) b zero =
+    let h : length (take 8 b) ≤ 8 = rw length-take (omega arith) in
+    lt-of-lt-of-le (num-lt (take 8 b)) (pow-mono h)
+Bytes-toBytes (suc n) b (suc i) = Bytes-toBytes n (drop 8 b) i
+
+pub toBits-toBytes : (n : ℕ) (b : List Bool) → length b ≡ n * 8 → toBits (toBytes n b) ≡ b
+unfolding toBits toBytes
+toBits-toBytes zero [] h = refl
+toBits-toBytes zero (x ∷ b) h = absurd (omega arith)
+toBits-toBytes (suc n) b h =
+    ap₂ _++_ (bits-num 8 (take 8 b) (length-take-le 8 b (omega arith))) (toBits-toBytes n (drop 8 b) (rw length-drop (omega arith)))
+    ∙ take-append-drop 8 b
+
+pub toBytes-toBits : (n : ℕ) (s : List ℕ) → length s ≡ n → Bytes s → toBytes n (toBits s) ≡ s
+unfolding toBits toBytes
+toBytes-toBits zero [] h k = refl
+toBytes-toBits zero (x ∷ s) h k = absurd (omega arith)
+toBytes-toBits (suc n) [] h k = absurd (omega arith)
+toBytes-toBits (suc n) (x ∷ s) h k =
+    ap₂ (λ (a b : List Bool). num a ∷ toBytes n b) (take-at (bits 8 x) (toBits s) 8 (length-bits 8 x)) (drop-at (bits 8 x) (toBits s) 8 (length-bits 8 x))
+    ∙ ap₂ _∷_ (num-bits 8 x (k 0)) (toBytes-toBits n s (omega arith) (λ i. k (suc i)))
+
+pub length-toBits : (s : List ℕ) → length (toBits s) ≡ length s * 8
+unfolding toBits
+length-toBits [] = refl
+length-toBits (x ∷ s) = length-append (bits 8 x) (toBits s) ∙ omega (arith, length-bits 8 x, length-toBits s)
+
 -- ---- sums and choices of bits
 
 pub getD-⊞ : (a b : List Bool) (i : ℕ) → length a ≡ length b → getD (a ⊞ b) i false ≡ differs (getD a i false) (getD b i false)
@@ -287,6 +329,19 @@ unfolding _⊞_
 length-⊞ [] b h = refl
 length-⊞ (x ∷ a) [] h = absurd (omega arith)
 length-⊞ (x ∷ a) (y ∷ b) h = ap suc (length-⊞ a b (omega arith))
+
+differs-twice : (x y : Bool) → differs (differs x y) y ≡ x
+unfolding differs
+differs-twice false false = refl
+differs-twice false true = refl
+differs-twice true false = refl
+differs-twice true true = refl
+
+pub ⊞-twice : (a b : List Bool) → length a ≡ length b → a ⊞ b ⊞ b ≡ a
+unfolding _⊞_
+⊞-twice [] b h = refl
+⊞-twice (x ∷ a) [] h = absurd (omega arith)
+⊞-twice (x ∷ a) (y ∷ b) h = ap₂ _∷_ (differs-twice x y) (⊞-twice a b (omega arith))
 
 differs-false : (b : Bool) → differs b false ≡ b
 unfolding differs

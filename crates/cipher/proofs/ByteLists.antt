@@ -1,12 +1,12 @@
 -- Strings of bytes, and their parts: each entry stays below 256. Assumes nothing.
 use mathlib.Core.Path.{_≡_, refl, sym, ap}
-use mathlib.Core.List.{List, [], _∷_, _++_}
+use mathlib.Core.List.{List, [], _∷_, _++_, map}
 use Prim.Native.Nat.{ℕ, zero, suc, _+_, _<_}
 use native.Mathlib.Omega.{arith}
 use lib.Dec.{lit<}
 use lib.ListN.{length, take, drop, getD, replicate}
 use lib.Seq.{getD-drop}
-use Rattle.cipher.specs.Bytes.{Bytes}
+use Rattle.cipher.specs.Bytes.{Bytes, tab}
 
 pub Bytes-nil : Bytes []
 Bytes-nil i = lit< tt
@@ -29,6 +29,17 @@ pub Bytes-replicate : (n : ℕ) (x : ℕ) → x < 256 → Bytes (replicate n x)
 Bytes-replicate zero x h i = lit< tt
 Bytes-replicate (suc n) x h zero = h
 Bytes-replicate (suc n) x h (suc i) = Bytes-replicate n x h i
+
+pub Bytes-tab : (n : ℕ) (f : ℕ → ℕ) → ((i : ℕ) → f i < 256) → Bytes (tab n f)
+unfolding tab
+Bytes-tab zero f h i = lit< tt
+Bytes-tab (suc n) f h zero = h 0
+Bytes-tab (suc n) f h (suc i) = Bytes-tab n (λ j. f (suc j)) (λ j. h (suc j)) i
+
+pub Bytes-map : (f : ℕ → ℕ) → ((x : ℕ) → f x < 256) → (s : List ℕ) → Bytes (map f s)
+Bytes-map f h [] i = lit< tt
+Bytes-map f h (x ∷ s) zero = h x
+Bytes-map f h (x ∷ s) (suc i) = Bytes-map f h s i
 
 pub empty : {A : Type 0} (l : List A) → length l ≡ 0 → [] ≡ l
 empty [] h = refl

@@ -11,6 +11,7 @@ pub mod ByteLists
 pub mod Chains
 pub mod Compare
 pub mod Copies
+pub mod DesInverse
 pub mod DesKeys
 pub mod DesPc2
 pub mod DesRounds

@@ -1,9 +1,8 @@
--- The bytes of words of 32 bits, highest first, and lists of them; lists by index. Assumes nothing.
+-- The bytes of words of 32 bits, highest first, and lists of them. Assumes nothing.
 use mathlib.Core.Path.{_≡_, refl, sym, ap, ap₂, _∙_}
 use mathlib.Core.List.{List, [], _∷_, _++_, map}
 use Prim.Native.Nat.{ℕ, zero, suc, _+_, _*_, _/_, _%_, _^_, _≤_, _<_}
-use native.Mathlib.Nat.{le-of-suc-le-suc, not-suc-le-zero, mod-lt}
-use native.Mathlib.Numerals.{add-one}
+use native.Mathlib.Nat.{mod-lt}
 use native.Mathlib.Omega.{arith}
 use lib.Dec.{lit<}
 use lib.ListN.{length, take, drop, getD}
@@ -18,47 +17,7 @@ infixr 60 _◂_
 pub _◂_ : {a b : ℕ} {s t : List ℕ} → a ≡ b → s ≡ t → a ∷ s ≡ b ∷ t
 _◂_ p q = ap₂ _∷_ p q
 
--- ---- lists by index
-
-pub length-tab : (n : ℕ) (f : ℕ → ℕ) → length (tab n f) ≡ n
-unfolding tab
-length-tab zero f = refl
-length-tab (suc n) f = ap suc (length-tab n (λ i. f (suc i)))
-
--- a list of n numbers, with each of them written out
-pub listed : (n : ℕ) (s : List ℕ) → length s ≡ n → s ≡ tab n (λ i. getD s i 0)
-unfolding tab
-listed zero [] h = refl
-listed zero (x ∷ s) h = absurd (omega arith)
-listed (suc n) [] h = absurd (omega arith)
-listed (suc n) (x ∷ s) h = ap (λ (t : List ℕ). x ∷ t) (listed n s (omega arith))
-
 -- ---- lists of bytes
-
-pub Bytes-tab : (n : ℕ) (f : ℕ → ℕ) → ((i : ℕ) → f i < 256) → Bytes (tab n f)
-unfolding tab
-Bytes-tab zero f h i = lit< tt
-Bytes-tab (suc n) f h zero = h 0
-Bytes-tab (suc n) f h (suc i) = Bytes-tab n (λ j. f (suc j)) (λ j. h (suc j)) i
-
-pub Bytes-map : (f : ℕ → ℕ) → ((x : ℕ) → f x < 256) → (s : List ℕ) → Bytes (map f s)
-Bytes-map f h [] i = lit< tt
-Bytes-map f h (x ∷ s) zero = h x
-Bytes-map f h (x ∷ s) (suc i) = Bytes-map f h s i
-
-pub Bytes-take : (n : ℕ) (s : List ℕ) → Bytes s → Bytes (take n s)
-Bytes-take zero s h i = lit< tt
-Bytes-take (suc n) [] h i = lit< tt
-Bytes-take (suc n) (x ∷ s) h zero = h 0
-Bytes-take (suc n) (x ∷ s) h (suc i) = Bytes-take n s (λ j. h (suc j)) i
-
-pub Bytes-drop : (n : ℕ) (s : List ℕ) → Bytes s → Bytes (drop n s)
-Bytes-drop n s h i = rw (getD-drop n s i 0) (h (n + i))
-
-pub Bytes-append : (s t : List ℕ) → Bytes s → Bytes t → Bytes (s ++ t)
-Bytes-append [] t h k i = k i
-Bytes-append (x ∷ s) t h k zero = h 0
-Bytes-append (x ∷ s) t h k (suc i) = Bytes-append s t (λ j. h (suc j)) k i
 
 -- a function on bytes that another undoes
 pub map-undone : (f g : ℕ → ℕ) → ((x : ℕ) → x < 256 → g (f x) ≡ x) → (s : List ℕ) → Bytes s → map g (map f s) ≡ s
@@ -113,15 +72,6 @@ unfolding wordsBytes wordBytes
 words-drop zero ws = refl
 words-drop (suc m) [] = let e : 4 * suc m ≡ suc (suc (suc (suc (4 * m)))) = omega arith in rw e
 words-drop (suc m) (x ∷ ws) = let e : 4 * suc m ≡ suc (suc (suc (suc (4 * m)))) = omega arith in rw e (words-drop m ws)
-
-pub words-bytes : (ws : List ℕ) → Bytes (wordsBytes ws)
-unfolding wordsBytes wordBytes
-words-bytes [] i = lit< tt
-words-bytes (x ∷ ws) zero = omega arith
-words-bytes (x ∷ ws) (suc zero) = omega arith
-words-bytes (x ∷ ws) (suc (suc zero)) = omega arith
-words-bytes (x ∷ ws) (suc (suc (suc zero))) = omega arith
-words-bytes (x ∷ ws) (suc (suc (suc (suc i)))) = words-bytes ws i
 
 next : (ws : List ℕ) (j k : ℕ) → k ≡ suc j → j < length ws → drop j ws ≡ getD ws j 0 ∷ drop k ws
 next ws j k e h = drop-cons ws j 0 h ∙ ap (λ (n : ℕ). getD ws j 0 ∷ drop n ws) (sym e)

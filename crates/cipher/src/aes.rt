@@ -8,6 +8,7 @@ ghost use Rattle.cipher.specs.Fips197;
 ghost use Rattle.cipher.specs.Fips197.{sBox, invSBox, rotWord, keyExpansion, cipher, invRounds, invCipher, aesEncrypt, aesDecrypt};
 ghost use Rattle.cipher.specs.AesTables.{diagonal, rotRight, mixedColumn, MixTable, TeTable, UTable, InvSTable};
 
+// A state, or four words of the key schedule.
 pub(crate) struct Columns {
     pub(crate) a: u32,
     pub(crate) b: u32,
@@ -28,6 +29,7 @@ fn join(p: u8, q: u8, r: u8, s: u8) -> u32
     wide(p) * 0x100_0000 + wide(q) * 0x1_0000 + wide(r) * 0x100 + wide(s)
 }
 
+// A block as four words, and back.
 fn load(b: [u8; 16]) -> Columns
     ensures { λ r. ⌜ wordsBytes (r .a ∷ r .b ∷ r .c ∷ r .d ∷ []) ≡ b ⌝ }
 {
@@ -144,7 +146,7 @@ pub(crate) fn encrypt_with(te: &[u32], w: &[u32], block: [u8; 16]) -> [u8; 16]
     })
 }
 
-// The round keys: ten times four words more.
+// The key schedule: the key's four words, and ten times four more. power is that of the round constant.
 pub(crate) fn expand(te: &[u32], key: [u8; 16]) -> [u32; 44]
     requires { ⌜ TeTable (now te) ⌝ }
     ensures { λ r. ⌜ wordsBytes r ≡ keyExpansion key ⌝ }
@@ -244,6 +246,7 @@ pub(crate) fn decrypt_with(u: &[u32], si: &[u8], w: &[u32], block: [u8; 16]) -> 
     })
 }
 
+// Each table is made once, here, and lent to what reads it: a constant is written out anew wherever it is named.
 pub fn encrypt_aes128_block(data: [u8; 16], key: [u8; 16]) -> [u8; 16]
     ensures { λ r. ⌜ r ≡ aesEncrypt key «data» ⌝ }
 {

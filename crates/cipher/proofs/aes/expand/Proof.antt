@@ -1,12 +1,11 @@
 -- `expand` meets its contract. The loop's invariant is `Schedule`, of the key that the four words hold where the loop begins. Assumes nothing.
-use mathlib.Core.Path.{_≡_, refl, ap, sym, _∙_}
-use mathlib.Core.List.{List, [], _∷_, map}
-use Prim.Native.Nat.{ℕ, _-_, _≤_}
+use mathlib.Core.Path.{refl, ap, _∙_}
+use mathlib.Core.List.{[], _∷_}
+use Prim.Native.Nat.{_-_}
 use native.Mathlib.Omega.{arith}
 use lib.ListN.{replicate}
-use Rattle.cipher.specs.Bytes.{wordBytes, wordsBytes}
-use Rattle.cipher.specs.Fips197.{sBox, keyExpansion}
-use Rattle.cipher.specs.AesTables.{diagonal}
+use Rattle.cipher.specs.Bytes.{wordsBytes}
+use Rattle.cipher.specs.Fips197.{keyExpansion}
 use Rattle.cipher.proofs.AesSchedule.{Schedule, schedule-start, schedule-step, schedule-done}
 use borrow.Author.Needs.{needs}
 use Rattle.cipher.proofs.aes.expand.Statement.{statement}
@@ -97,12 +96,10 @@ loop-less : tie.Need-loop-less Inv-loop μ-loop
 loop-less c = omega arith
 
 loop-again : tie.Need-loop-again Inv-loop μ-loop
-unfolding diagonal wordBytes
 loop-again c =
-    let g = c .substituted in
     let r = c .before .rotated-left in
     let l = c .before .before .before .loop in
-    schedule-step (l .inv) (c .before .before .loop-test .taken) (g .result) (g .ensures ∙ ap (map sBox) (r .ensures)) _ _ _ _ refl refl refl refl
+    schedule-step (l .inv) (c .before .before .loop-test .taken) (r .result) (c .substituted .result) (r .ensures) (c .substituted .ensures) _ _ _ _ refl refl refl refl
 
 returns : tie.Need-returns Inv-loop μ-loop
 returns c =

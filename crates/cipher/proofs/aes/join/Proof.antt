@@ -1,6 +1,5 @@
 -- `join` meets its contract: what `wide` gives is below 256. Assumes nothing.
 use mathlib.Core.Path.{refl, _∙_}
-use Prim.Native.Nat.{_<_}
 use native.Mathlib.Omega.{arith}
 use Rattle.cipher.proofs.Words.{_◂_, word-join}
 use borrow.Author.Needs.{needs}

@@ -2,7 +2,8 @@
 use mathlib.Core.Path.{_≡_, sym, _∙_}
 use lib.ListN.{length}
 use Rattle.cipher.specs.Bytes.{tab}
-use Rattle.cipher.proofs.Words.{listed, words-of}
+use Rattle.cipher.proofs.Tabs.{listed}
+use Rattle.cipher.proofs.Words.{words-of}
 use native.Mathlib.Omega.{arith}
 use borrow.Author.Needs.{needs}
 use Rattle.cipher.proofs.aes.load.Statement.{statement}

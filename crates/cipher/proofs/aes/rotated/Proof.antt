@@ -1,7 +1,6 @@
 -- `rotated` meets its contract. Assumes nothing.
 use Rattle.cipher.proofs.Words.{word-right}
 use native.Mathlib.Omega.{arith}
-use borrow.Author.Needs.{needs}
 use Rattle.cipher.proofs.aes.rotated.Statement.{statement}
 use Rattle.cipher.proofs.aes.rotated.Tie as tie
 

@@ -1,7 +1,6 @@
 -- `rotated_left` meets its contract. Assumes nothing.
 use Rattle.cipher.proofs.Words.{word-left}
 use native.Mathlib.Omega.{arith}
-use borrow.Author.Needs.{needs}
 use Rattle.cipher.proofs.aes.rotated_left.Statement.{statement}
 use Rattle.cipher.proofs.aes.rotated_left.Tie as tie
 

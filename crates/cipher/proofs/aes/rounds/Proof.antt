@@ -1,8 +1,8 @@
 -- `rounds` meets its contract. The loop's invariant: after n turns the state is that of n rounds, for each block that the loop could have started
 -- from. Assumes nothing.
-use mathlib.Core.Path.{_≡_, refl, ap, _∙_}
+use mathlib.Core.Path.{_≡_, ap, _∙_}
 use mathlib.Core.List.{List, [], _∷_}
-use Prim.Native.Nat.{ℕ, _-_, _*_, _≤_}
+use Prim.Native.Nat.{ℕ, _-_, _≤_}
 use native.Mathlib.Omega.{arith}
 use lib.ListN.{length}
 use Rattle.cipher.specs.Bytes.{_⊕_, wordsBytes}

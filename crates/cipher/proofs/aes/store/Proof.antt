@@ -2,7 +2,6 @@
 use mathlib.Core.Path.{refl}
 use Rattle.cipher.specs.Bytes.{wordBytes, wordsBytes}
 use native.Mathlib.Omega.{arith}
-use borrow.Author.Needs.{needs}
 use Rattle.cipher.proofs.aes.store.Statement.{statement}
 use Rattle.cipher.proofs.aes.store.Tie as tie
 

@@ -1,7 +1,6 @@
 -- `substituted` meets its contract, by the rule of the table. Assumes nothing.
 use Rattle.cipher.proofs.AesColumns.{substituted-made}
 use native.Mathlib.Omega.{arith}
-use borrow.Author.Needs.{needs}
 use Rattle.cipher.proofs.aes.substituted.Statement.{statement}
 use Rattle.cipher.proofs.aes.substituted.Tie as tie
 

@@ -1,73 +1,54 @@
-use Rattle.cipher.proofs.DesPc2.{pc2, pc2-table}
-use Rattle.cipher.proofs.DesSp.{sp, sp-table}
-use Rattle.cipher.proofs.DesRounds.{encrypted, decrypted, tdea2-decrypted}
 use borrow.Author.Needs.{needs}
+use Rattle.cipher.proofs.DesPc2.{pc2, pc2-table}
+use Rattle.cipher.proofs.DesRounds.{encrypted, decrypted, tdea2-decrypted}
+use Rattle.cipher.proofs.DesSp.{sp, sp-table}
 use Rattle.cipher.proofs.des.decrypt_3des_block.Statement.{statement}
 use Rattle.cipher.proofs.des.decrypt_3des_block.Tie as tie
-use Rattle.cipher.proofs.des.decrypt_3des_block.Reads as reads
-use Rattle.cipher.proofs.des.decrypt_3des_block.Lts as lts
-use Rattle.cipher.proofs.des.decrypt_with.Reads as decrypt-with-reads
-use Rattle.cipher.proofs.des.encrypt_with.Reads as encrypt-with-reads
-use Rattle.cipher.proofs.des.schedule.Reads as schedule-reads
 
--- src/des.rt:51:24
 slice-aggregate-schedule : tie.Need-slice-aggregate-schedule
 slice-aggregate-schedule c = search needs
 
--- src/des.rt:51:15
 schedule-requires : tie.Need-schedule-requires
 unfolding pc2
 schedule-requires c κs = pc2-table
 
--- src/des.rt:52:24
 slice-aggregate-schedule-2 : tie.Need-slice-aggregate-schedule-2
 slice-aggregate-schedule-2 c = search needs
 
--- src/des.rt:52:15
 schedule-requires-2 : tie.Need-schedule-requires-2
 unfolding pc2
 schedule-requires-2 c κs = pc2-table
 
--- src/des.rt:53:29
 slice-aggregate-decrypt-with : tie.Need-slice-aggregate-decrypt-with
 slice-aggregate-decrypt-with c = search needs
 
--- src/des.rt:53:34
 slice-aggregate-decrypt-with-2 : tie.Need-slice-aggregate-decrypt-with-2
 slice-aggregate-decrypt-with-2 c = search needs
 
--- src/des.rt:53:9
 decrypt-with-requires : tie.Need-decrypt-with-requires
 unfolding sp
 decrypt-with-requires c κs = (sp-table, search needs)
 
--- src/des.rt:54:30
 slice-aggregate-encrypt-with : tie.Need-slice-aggregate-encrypt-with
 slice-aggregate-encrypt-with c = search needs
 
--- src/des.rt:54:35
 slice-aggregate-encrypt-with-2 : tie.Need-slice-aggregate-encrypt-with-2
 slice-aggregate-encrypt-with-2 c = search needs
 
--- src/des.rt:54:9
 encrypt-with-requires : tie.Need-encrypt-with-requires
 unfolding sp
 encrypt-with-requires c κs = (sp-table, search needs)
 
--- src/des.rt:55:18
 slice-aggregate-decrypt-with-3 : tie.Need-slice-aggregate-decrypt-with-3
 slice-aggregate-decrypt-with-3 c = search needs
 
--- src/des.rt:55:23
 slice-aggregate-decrypt-with-4 : tie.Need-slice-aggregate-decrypt-with-4
 slice-aggregate-decrypt-with-4 c = search needs
 
--- src/des.rt:55:5
 decrypt-with-requires-2 : tie.Need-decrypt-with-requires-2
 unfolding sp
 decrypt-with-requires-2 c κs = (sp-table, search needs)
 
--- src/des.rt:46:1
 returns : tie.Need-returns
 returns c = let s1 = c .before .before .before .before .before .before .before .before .before .before .before .schedule in
     let s2 = c .before .before .before .before .before .before .before .before .before .schedule2 in

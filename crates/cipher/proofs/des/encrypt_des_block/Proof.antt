@@ -1,37 +1,27 @@
-use Rattle.cipher.proofs.DesPc2.{pc2, pc2-table}
-use Rattle.cipher.proofs.DesSp.{sp, sp-table}
-use Rattle.cipher.proofs.DesRounds.{encrypted}
 use borrow.Author.Needs.{needs}
-use Rattle.cipher.proofs.des.encrypt_des_block.Statement.{statement}
+use Rattle.cipher.proofs.DesPc2.{pc2, pc2-table}
+use Rattle.cipher.proofs.DesRounds.{encrypted}
+use Rattle.cipher.proofs.DesSp.{sp, sp-table}
 use Rattle.cipher.proofs.des.encrypt_des_block.Tie as tie
-use Rattle.cipher.proofs.des.encrypt_des_block.Reads as reads
-use Rattle.cipher.proofs.des.encrypt_des_block.Lts as lts
-use Rattle.cipher.proofs.des.encrypt_with.Reads as encrypt-with-reads
-use Rattle.cipher.proofs.des.schedule.Reads as schedule-reads
+use Rattle.cipher.proofs.des.encrypt_des_block.Statement.{statement}
 
--- src/des.rt:19:23
 slice-aggregate-schedule : tie.Need-slice-aggregate-schedule
 slice-aggregate-schedule c = search needs
 
--- src/des.rt:19:14
 schedule-requires : tie.Need-schedule-requires
 unfolding pc2
 schedule-requires c κs = pc2-table
 
--- src/des.rt:20:18
 slice-aggregate-encrypt-with : tie.Need-slice-aggregate-encrypt-with
 slice-aggregate-encrypt-with c = search needs
 
--- src/des.rt:20:23
 slice-aggregate-encrypt-with-2 : tie.Need-slice-aggregate-encrypt-with-2
 slice-aggregate-encrypt-with-2 c = search needs
 
--- src/des.rt:20:5
 encrypt-with-requires : tie.Need-encrypt-with-requires
 unfolding sp
 encrypt-with-requires c κs = (sp-table, search needs)
 
--- src/des.rt:14:1
 returns : tie.Need-returns
 returns c = let s = c .before .before .before .schedule in
     encrypted _ _ _ (s .result) (s .ensures) (c .encrypt-with .ensures)

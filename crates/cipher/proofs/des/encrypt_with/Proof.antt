@@ -1,83 +1,64 @@
-use mathlib.Core.Path.{_≡_, refl, _∙_}
 use mathlib.Core.List.{map}
+use mathlib.Core.Path.{_≡_, refl, _∙_}
 use Prim.Native.Nat.{_-_, _≤_}
 use native.Mathlib.Omega.{arith}
+use borrow.Author.Needs.{needs}
 use lib.ListN.{length, length-map}
 use Rattle.cipher.specs.Bits.{toBits}
 use Rattle.cipher.specs.DesTables.{keyBits}
 use Rattle.cipher.proofs.DesRounds.{Rounds, rounds-turn, rounds-done, crypt-word, key-at}
-use borrow.Author.Needs.{needs}
 use Rattle.cipher.proofs.des.encrypt_with.Statement.{statement}
 use Rattle.cipher.proofs.des.encrypt_with.Tie as tie
-use Rattle.cipher.proofs.des.encrypt_with.Reads as reads
-use Rattle.cipher.proofs.des.encrypt_with.Lts as lts
-use Rattle.cipher.proofs.des.initial.Reads as initial-reads
-use Rattle.cipher.proofs.des.last.Reads as last-reads
-use Rattle.cipher.proofs.des.left.Reads as left-reads
-use Rattle.cipher.proofs.des.mangle.Reads as mangle-reads
-use Rattle.cipher.proofs.des.right.Reads as right-reads
 
 abbrev Inv-loop : tie.InvT-loop
-Inv-loop sp ks x l₀ r₀ i₀ l r i = (i ≤ 16) × Rounds (map keyBits (ks)) l₀ r₀ l r i
+Inv-loop sp ks x l₀ r₀ i₀ l r i = (i ≤ 16) × Rounds (map keyBits ks) l₀ r₀ l r i
 
 abbrev μ-loop : tie.MeasureT-loop
 μ-loop sp ks x l₀ r₀ i₀ l r i = 16 - i
 
--- src/des.rt:65:9
 initial-requires : tie.Need-initial-requires Inv-loop μ-loop
 initial-requires c κs = search needs
 
--- src/des.rt:66:9
 left-requires : tie.Need-left-requires Inv-loop μ-loop
 left-requires c κs = search needs
 
--- src/des.rt:67:9
 right-requires : tie.Need-right-requires Inv-loop μ-loop
 right-requires c κs = search needs
 
--- src/des.rt:69:5
 loop-holds : tie.Need-loop-holds Inv-loop μ-loop
 loop-holds c = (omega arith, refl)
 
--- src/des.rt:70:38
 mul-mangle : tie.Need-mul-mangle Inv-loop μ-loop
 mul-mangle c = search needs
 
--- src/des.rt:70:38
 shared-slice-read-mangle : tie.Need-shared-slice-read-mangle Inv-loop μ-loop
 shared-slice-read-mangle c = search needs
 
--- src/des.rt:70:24
 mangle-requires : tie.Need-mangle-requires Inv-loop μ-loop
 mangle-requires c κs = search needs
 
--- src/des.rt:73:9
 add-i : tie.Need-add-i Inv-loop μ-loop
 add-i c = search needs
 
--- src/des.rt:69:5
 loop-less : tie.Need-loop-less Inv-loop μ-loop
 loop-less c = search needs
 
--- src/des.rt:69:5
 loop-again : tie.Need-loop-again Inv-loop μ-loop
 loop-again c = let a = c .before .before .before .before .before .before .before .before .before in
     let ks = a .args .ks .now in
     let i = c .before .before .before .loop .i in
-    let long : length (map keyBits (ks)) ≡ 16 = length-map ks keyBits ∙ a .pre .1 in
-    (omega arith, rounds-turn (map keyBits (ks)) _ _ _ _ i _ _ (c .before .before .before .loop .inv .1) (omega arith) (key-at ks i (omega arith)) (c .mangle .ensures))
+    let long : length (map keyBits ks) ≡ 16 = length-map ks keyBits ∙ a .pre .1 in
+    (omega arith, rounds-turn (map keyBits ks) _ _ _ _ i _ _ (c .before .before .before .loop .inv .1) (omega arith) (key-at ks i (omega arith)) (c .mangle .ensures))
 
--- src/des.rt:75:5
 last-requires : tie.Need-last-requires Inv-loop μ-loop
 last-requires c κs = search needs
 
--- src/des.rt:60:1
 returns : tie.Need-returns Inv-loop μ-loop
 returns c = let a = c .before .before .before .before .before .before .before .before in
     let ks = a .args .ks .now in
     let i = c .before .before .loop .i in
-    let long : length (map keyBits (ks)) ≡ 16 = length-map ks keyBits ∙ a .pre .1 in
-    crypt-word (map keyBits (ks)) (toBits (a .args .block)) _ _ _ _ _ _ (c .before .before .before .before .before .initial .ensures) (c .before .before .before .before .left .ensures) (c .before .before .before .right .ensures) (rounds-done (map keyBits (ks)) _ _ _ _ i (c .before .before .loop .inv .1) (omega arith)) (c .last .ensures)
+    let long : length (map keyBits ks) ≡ 16 = length-map ks keyBits ∙ a .pre .1 in
+    crypt-word (map keyBits ks) (toBits (a .args .block)) _ _ _ _ _ _ (c .before .before .before .before .before .initial .ensures) (c .before .before .before .before .left .ensures) (c .before .before .before .right .ensures) (rounds-done (map keyBits ks) _ _ _ _ i (c .before .before .loop .inv .1) (omega arith)) (c .last .ensures)
 
 pub encrypt-with-spec : {M : Type 1} → statement M
 encrypt-with-spec =

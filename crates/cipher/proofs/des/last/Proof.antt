@@ -1,46 +1,31 @@
 use Prim.Native.Nat.{_<_, _^_}
 use native.Mathlib.Omega.{arith}
-use Rattle.cipher.proofs.DesWords.{last-word}
 use borrow.Author.Needs.{needs}
+use Rattle.cipher.proofs.DesWords.{last-word}
 use Rattle.cipher.proofs.des.last.Statement.{statement}
 use Rattle.cipher.proofs.des.last.Tie as tie
-use Rattle.cipher.proofs.des.last.Reads as reads
-use Rattle.cipher.proofs.des.last.Lts as lts
-use Rattle.cipher.proofs.des.delta_swap.Reads as delta-swap-reads
-use Rattle.cipher.proofs.des.joined.Reads as joined-reads
-use Rattle.cipher.proofs.des.store.Reads as store-reads
-use Rattle.cipher.proofs.des.transpose.Reads as transpose-reads
-use Rattle.cipher.proofs.des.turn_right_1.Reads as turn-right-1-reads
 
--- src/des.rt:139:20
 turn-right-1-requires : tie.Need-turn-right-1-requires
 turn-right-1-requires c κs = search needs
 
--- src/des.rt:139:37
 turn-right-1-requires-2 : tie.Need-turn-right-1-requires-2
 turn-right-1-requires-2 c κs = search needs
 
--- src/des.rt:139:9
 joined-requires : tie.Need-joined-requires
 joined-requires c κs = search needs
 
--- src/des.rt:140:9
 delta-swap-requires : tie.Need-delta-swap-requires
 delta-swap-requires c κs = search needs
 
--- src/des.rt:141:9
 delta-swap-requires-2 : tie.Need-delta-swap-requires-2
 delta-swap-requires-2 c κs = search needs
 
--- src/des.rt:142:11
 transpose-requires : tie.Need-transpose-requires
 transpose-requires c κs = search needs
 
--- src/des.rt:142:5
 store-requires : tie.Need-store-requires
 store-requires c κs = search needs
 
--- src/des.rt:136:1
 returns : tie.Need-returns
 returns c = let h : c .before .before .before .before .before .turn-right-12 .result < 2 ^ 32 = omega arith in
     last-word (c .before .before .before .before .before .before .before .args .l) (c .before .before .before .before .before .before .before .args .r) _ _ _ _ _ _ _ (c .before .before .before .before .before .before .turn-right-1 .ensures) (c .before .before .before .before .before .turn-right-12 .ensures) h (c .before .before .before .before .joined .ensures) (c .before .before .before .delta-swap .ensures) (c .before .before .delta-swap2 .ensures) (c .before .transpose .ensures) (c .store .ensures)

@@ -1,134 +1,100 @@
 use mathlib.Core.Path.{_≡_}
+use borrow.Author.Needs.{needs}
 use lib.ListN.{length}
 use Rattle.cipher.proofs.DesWords.{load-word}
-use borrow.Author.Needs.{needs}
-use Rattle.cipher.proofs.des.load.Statement.{statement}
 use Rattle.cipher.proofs.des.load.Tie as tie
-use Rattle.cipher.proofs.des.load.Reads as reads
-use Rattle.cipher.proofs.des.load.Lts as lts
-use Rattle.cipher.proofs.des.wide.Reads as wide-reads
+use Rattle.cipher.proofs.des.load.Statement.{statement}
 
--- src/des.rt:267:10
 array-read-wide : tie.Need-array-read-wide
 array-read-wide c = search needs
 
--- src/des.rt:267:5
 wide-requires : tie.Need-wide-requires
 wide-requires c κs = search needs
 
--- src/des.rt:267:5
 mul-result : tie.Need-mul-result
 mul-result c = search needs
 
--- src/des.rt:268:17
 array-read-wide-2 : tie.Need-array-read-wide-2
 array-read-wide-2 c = search needs
 
--- src/des.rt:268:12
 wide-requires-2 : tie.Need-wide-requires-2
 wide-requires-2 c κs = search needs
 
--- src/des.rt:268:12
 mul-result-2 : tie.Need-mul-result-2
 mul-result-2 c = search needs
 
--- src/des.rt:269:21
 array-read-wide-3 : tie.Need-array-read-wide-3
 array-read-wide-3 c = search needs
 
--- src/des.rt:269:16
 wide-requires-3 : tie.Need-wide-requires-3
 wide-requires-3 c κs = search needs
 
--- src/des.rt:269:16
 mul-result-3 : tie.Need-mul-result-3
 mul-result-3 c = search needs
 
--- src/des.rt:270:25
 array-read-wide-4 : tie.Need-array-read-wide-4
 array-read-wide-4 c = search needs
 
--- src/des.rt:270:20
 wide-requires-4 : tie.Need-wide-requires-4
 wide-requires-4 c κs = search needs
 
--- src/des.rt:270:20
 mul-result-4 : tie.Need-mul-result-4
 mul-result-4 c = search needs
 
--- src/des.rt:271:29
 array-read-wide-5 : tie.Need-array-read-wide-5
 array-read-wide-5 c = search needs
 
--- src/des.rt:271:24
 wide-requires-5 : tie.Need-wide-requires-5
 wide-requires-5 c κs = search needs
 
--- src/des.rt:271:24
 mul-result-5 : tie.Need-mul-result-5
 mul-result-5 c = search needs
 
--- src/des.rt:272:33
 array-read-wide-6 : tie.Need-array-read-wide-6
 array-read-wide-6 c = search needs
 
--- src/des.rt:272:28
 wide-requires-6 : tie.Need-wide-requires-6
 wide-requires-6 c κs = search needs
 
--- src/des.rt:272:28
 mul-result-6 : tie.Need-mul-result-6
 mul-result-6 c = search needs
 
--- src/des.rt:272:58
 array-read-wide-7 : tie.Need-array-read-wide-7
 array-read-wide-7 c = search needs
 
--- src/des.rt:272:53
 wide-requires-7 : tie.Need-wide-requires-7
 wide-requires-7 c κs = search needs
 
--- src/des.rt:272:53
 mul-result-7 : tie.Need-mul-result-7
 mul-result-7 c = search needs
 
--- src/des.rt:272:79
 array-read-wide-8 : tie.Need-array-read-wide-8
 array-read-wide-8 c = search needs
 
--- src/des.rt:272:74
 wide-requires-8 : tie.Need-wide-requires-8
 wide-requires-8 c κs = search needs
 
--- src/des.rt:272:53
 add-result : tie.Need-add-result
 add-result c = search needs
 
--- src/des.rt:272:28
 add-result-2 : tie.Need-add-result-2
 add-result-2 c = search needs
 
--- src/des.rt:271:24
 add-result-3 : tie.Need-add-result-3
 add-result-3 c = search needs
 
--- src/des.rt:270:20
 add-result-4 : tie.Need-add-result-4
 add-result-4 c = search needs
 
--- src/des.rt:269:16
 add-result-5 : tie.Need-add-result-5
 add-result-5 c = search needs
 
--- src/des.rt:268:12
 add-result-6 : tie.Need-add-result-6
 add-result-6 c = search needs
 
--- src/des.rt:267:5
 add-result-7 : tie.Need-add-result-7
 add-result-7 c = search needs
 
--- src/des.rt:264:1
 returns : tie.Need-returns
 returns c = let h : length (c .before .before .before .before .before .before .before .before .args .t1) ≡ 8 = search needs in
     load-word (c .before .before .before .before .before .before .before .before .args .t1) _ _ _ _ _ _ _ _ h (c .wide8 .ensures) (c .before .wide7 .ensures) (c .before .before .wide6 .ensures) (c .before .before .before .wide5 .ensures) (c .before .before .before .before .wide4 .ensures) (c .before .before .before .before .before .wide3 .ensures) (c .before .before .before .before .before .before .wide2 .ensures) (c .before .before .before .before .before .before .before .wide .ensures)

@@ -1,59 +1,41 @@
-use Rattle.cipher.proofs.DesRounds.{mangle-word}
 use borrow.Author.Needs.{needs}
-use Rattle.cipher.proofs.des.mangle.Statement.{statement}
+use Rattle.cipher.proofs.DesRounds.{mangle-word}
 use Rattle.cipher.proofs.des.mangle.Tie as tie
-use Rattle.cipher.proofs.des.mangle.Reads as reads
-use Rattle.cipher.proofs.des.mangle.Lts as lts
-use Rattle.cipher.proofs.des.high.Reads as high-reads
-use Rattle.cipher.proofs.des.low.Reads as low-reads
-use Rattle.cipher.proofs.des.pick.Reads as pick-reads
-use Rattle.cipher.proofs.des.turn_right_4.Reads as turn-right-4-reads
+use Rattle.cipher.proofs.des.mangle.Statement.{statement}
 
--- src/des.rt:102:13
 low-requires : tie.Need-low-requires
 low-requires c κs = search needs
 
--- src/des.rt:103:13
 high-requires : tie.Need-high-requires
 high-requires c κs = search needs
 
--- src/des.rt:103:23
 turn-right-4-requires : tie.Need-turn-right-4-requires
 turn-right-4-requires c κs = search needs
 
--- src/des.rt:104:9
 pick-requires : tie.Need-pick-requires
 pick-requires c κs = search needs
 
--- src/des.rt:105:9
 pick-requires-2 : tie.Need-pick-requires-2
 pick-requires-2 c κs = search needs
 
--- src/des.rt:106:9
 pick-requires-3 : tie.Need-pick-requires-3
 pick-requires-3 c κs = search needs
 
--- src/des.rt:107:9
 pick-requires-4 : tie.Need-pick-requires-4
 pick-requires-4 c κs = search needs
 
--- src/des.rt:108:9
 pick-requires-5 : tie.Need-pick-requires-5
 pick-requires-5 c κs = search needs
 
--- src/des.rt:109:9
 pick-requires-6 : tie.Need-pick-requires-6
 pick-requires-6 c κs = search needs
 
--- src/des.rt:110:9
 pick-requires-7 : tie.Need-pick-requires-7
 pick-requires-7 c κs = search needs
 
--- src/des.rt:111:9
 pick-requires-8 : tie.Need-pick-requires-8
 pick-requires-8 c κs = search needs
 
--- src/des.rt:98:1
 returns : tie.Need-returns
 returns c = let a = c .before .before .before .before .before .before .before .before .before .before .before .before in
     mangle-word (a .args .r) (a .args .k) _ _ _ _ _ _ _ _ _ _ _ (c .before .before .before .before .before .before .before .before .before .before .low .ensures) (c .before .before .before .before .before .before .before .before .before .high .ensures) (c .before .before .before .before .before .before .before .before .turn-right-4 .ensures) (c .before .before .before .before .before .before .before .pick .ensures) (c .before .before .before .before .before .before .pick2 .ensures) (c .before .before .before .before .before .pick3 .ensures) (c .before .before .before .before .pick4 .ensures) (c .before .before .before .pick5 .ensures) (c .before .before .pick6 .ensures) (c .before .pick7 .ensures) (c .pick8 .ensures)

@@ -1,31 +1,23 @@
-use Rattle.cipher.proofs.DesRounds.{sp-pick}
 use borrow.Author.Needs.{needs}
-use Rattle.cipher.proofs.des.pick.Statement.{statement}
+use Rattle.cipher.proofs.DesRounds.{sp-pick}
 use Rattle.cipher.proofs.des.pick.Tie as tie
-use Rattle.cipher.proofs.des.pick.Reads as reads
-use Rattle.cipher.proofs.des.pick.Lts as lts
+use Rattle.cipher.proofs.des.pick.Statement.{statement}
 
--- src/des.rt:121:8
 mul-result : tie.Need-mul-result
 mul-result c = search needs
 
--- src/des.rt:121:17
 cast-result : tie.Need-cast-result
 cast-result c = search needs
 
--- src/des.rt:121:8
 add-result : tie.Need-add-result
 add-result c = search needs
 
--- src/des.rt:121:5
 mul-result-2 : tie.Need-mul-result-2
 mul-result-2 c = search needs
 
--- src/des.rt:121:5
 shared-slice-read-result : tie.Need-shared-slice-read-result
 shared-slice-read-result c = search needs
 
--- src/des.rt:116:1
 returns : tie.Need-returns
 returns c = let a = c .before in
     sp-pick _ (a .args .j) (a .args .x) (a .pre .0) (a .pre .1)

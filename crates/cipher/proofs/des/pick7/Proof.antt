@@ -1,31 +1,23 @@
-use Rattle.cipher.proofs.DesKeys.{pc2-pick}
 use borrow.Author.Needs.{needs}
-use Rattle.cipher.proofs.des.pick7.Statement.{statement}
+use Rattle.cipher.proofs.DesKeys.{pc2-pick}
 use Rattle.cipher.proofs.des.pick7.Tie as tie
-use Rattle.cipher.proofs.des.pick7.Reads as reads
-use Rattle.cipher.proofs.des.pick7.Lts as lts
+use Rattle.cipher.proofs.des.pick7.Statement.{statement}
 
--- src/des.rt:240:9
 mul-result : tie.Need-mul-result
 mul-result c = search needs
 
--- src/des.rt:240:19
 cast-result : tie.Need-cast-result
 cast-result c = search needs
 
--- src/des.rt:240:9
 add-result : tie.Need-add-result
 add-result c = search needs
 
--- src/des.rt:240:5
 mul-result-2 : tie.Need-mul-result-2
 mul-result-2 c = search needs
 
--- src/des.rt:240:5
 shared-slice-read-result : tie.Need-shared-slice-read-result
 shared-slice-read-result c = search needs
 
--- src/des.rt:235:1
 returns : tie.Need-returns
 returns c = let a = c .before in
     pc2-pick _ (a .args .m) (a .args .x) (a .pre .0) (a .pre .1)

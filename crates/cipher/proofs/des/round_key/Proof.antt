@@ -1,43 +1,31 @@
 use Prim.Native.Nat.{_<_, _^_}
 use native.Mathlib.Omega.{arith}
-use Rattle.cipher.proofs.DesKeys.{key-word}
 use borrow.Author.Needs.{needs}
-use Rattle.cipher.proofs.des.round_key.Statement.{statement}
+use Rattle.cipher.proofs.DesKeys.{key-word}
 use Rattle.cipher.proofs.des.round_key.Tie as tie
-use Rattle.cipher.proofs.des.round_key.Reads as reads
-use Rattle.cipher.proofs.des.round_key.Lts as lts
-use Rattle.cipher.proofs.des.half_key.Reads as half-key-reads
-use Rattle.cipher.proofs.des.joined.Reads as joined-reads
+use Rattle.cipher.proofs.des.round_key.Statement.{statement}
 
--- src/des.rt:213:9
 half-key-requires : tie.Need-half-key-requires
 half-key-requires c κs = search needs
 
--- src/des.rt:214:9
 half-key-requires-2 : tie.Need-half-key-requires-2
 half-key-requires-2 c κs = search needs
 
--- src/des.rt:216:9
 mul-joined : tie.Need-mul-joined
 mul-joined c = search needs
 
--- src/des.rt:216:9
 add-joined : tie.Need-add-joined
 add-joined c = search needs
 
--- src/des.rt:217:9
 mul-joined-2 : tie.Need-mul-joined-2
 mul-joined-2 c = search needs
 
--- src/des.rt:217:9
 add-joined-2 : tie.Need-add-joined-2
 add-joined-2 c = search needs
 
--- src/des.rt:215:5
 joined-requires : tie.Need-joined-requires
 joined-requires c κs = search needs
 
--- src/des.rt:209:1
 returns : tie.Need-returns
 returns c = let a = c .before .before .before .before in
     let hx : c .before .before .half-key .result < 2 ^ 32 = omega arith in

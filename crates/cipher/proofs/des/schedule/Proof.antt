@@ -1,21 +1,13 @@
 use mathlib.Core.Path.{_≡_, refl, _∙_}
 use Prim.Native.Nat.{_-_, _^_, _<_}
 use native.Mathlib.Omega.{arith}
+use borrow.Author.Needs.{needs}
 use lib.ListN.{length}
 use Rattle.cipher.specs.Bits.{bits}
 use Rattle.cipher.specs.Fips46.{keysFrom, shifts}
 use Rattle.cipher.proofs.DesKeys.{Keys, keys-start, keys-turn, keys-done, keys-all}
-use borrow.Author.Needs.{needs}
 use Rattle.cipher.proofs.des.schedule.Statement.{statement}
 use Rattle.cipher.proofs.des.schedule.Tie as tie
-use Rattle.cipher.proofs.des.schedule.Reads as reads
-use Rattle.cipher.proofs.des.schedule.Lts as lts
-use Rattle.cipher.proofs.des.c0.Reads as c0-reads
-use Rattle.cipher.proofs.des.d0.Reads as d0-reads
-use Rattle.cipher.proofs.des.load.Reads as load-reads
-use Rattle.cipher.proofs.des.round_key.Reads as round-key-reads
-use Rattle.cipher.proofs.des.shifted.Reads as shifted-reads
-use Rattle.cipher.proofs.des.transpose.Reads as transpose-reads
 
 abbrev Inv-loop : tie.InvT-loop
 Inv-loop pc2 x c₀ d₀ ks₀ i₀ c d ks i = Keys (keysFrom shifts (bits 28 c₀) (bits 28 d₀)) c d ks i
@@ -23,60 +15,46 @@ Inv-loop pc2 x c₀ d₀ ks₀ i₀ c d ks i = Keys (keysFrom shifts (bits 28 c�
 abbrev μ-loop : tie.MeasureT-loop
 μ-loop pc2 x c₀ d₀ ks₀ i₀ c d ks i = 16 - i
 
--- src/des.rt:164:23
 load-requires : tie.Need-load-requires Inv-loop μ-loop
 load-requires c κs = search needs
 
--- src/des.rt:164:9
 transpose-requires : tie.Need-transpose-requires Inv-loop μ-loop
 transpose-requires c κs = search needs
 
--- src/des.rt:165:9
 c0-requires : tie.Need-c0-requires Inv-loop μ-loop
 c0-requires c κs = search needs
 
--- src/des.rt:166:9
 d0-requires : tie.Need-d0-requires Inv-loop μ-loop
 d0-requires c κs = search needs
 
--- src/des.rt:169:5
 loop-holds : tie.Need-loop-holds Inv-loop μ-loop
 loop-holds c = let h : c .before .c0 .result < 2 ^ 28 = omega (arith, c .before .c0 .ensures) in
     keys-start _ _ _ refl h (c .d0 .ensures .1)
 
--- src/des.rt:170:9
 shifted-requires : tie.Need-shifted-requires Inv-loop μ-loop
 shifted-requires c κs = search needs
 
--- src/des.rt:171:9
 shifted-requires-2 : tie.Need-shifted-requires-2 Inv-loop μ-loop
 shifted-requires-2 c κs = search needs
 
--- src/des.rt:172:17
 round-key-requires : tie.Need-round-key-requires Inv-loop μ-loop
 round-key-requires c κs = search needs
 
--- src/des.rt:172:9
 mul-ks : tie.Need-mul-ks Inv-loop μ-loop
 mul-ks c = search needs
 
--- src/des.rt:172:9
 array-write-ks : tie.Need-array-write-ks Inv-loop μ-loop
 array-write-ks c = search needs
 
--- src/des.rt:173:9
 add-i : tie.Need-add-i Inv-loop μ-loop
 add-i c = search needs
 
--- src/des.rt:169:5
 loop-less : tie.Need-loop-less Inv-loop μ-loop
 loop-less c = search needs
 
--- src/des.rt:169:5
 loop-again : tie.Need-loop-again Inv-loop μ-loop
 loop-again c = keys-turn _ _ _ (c .before .before .before .before .loop .inv) (c .before .before .before .loop-test .taken) (c .before .before .shifted .ensures) (c .before .shifted2 .ensures) (c .round-key .ensures)
 
--- src/des.rt:160:1
 returns : tie.Need-returns Inv-loop μ-loop
 returns c = let a = c .before .before .before .before .before .before .before in
     let h : length (a .args .key) ≡ 8 = search needs in

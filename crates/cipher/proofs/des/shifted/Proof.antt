@@ -1,34 +1,26 @@
-use native.Mathlib.Omega.{arith}
 use mathlib.Core.Logic.{⊎-elim}
-use Rattle.cipher.proofs.DesKeys.{once-first, once-at, twice, shift-word}
+use native.Mathlib.Omega.{arith}
 use borrow.Author.Needs.{needs}
-use Rattle.cipher.proofs.des.shifted.Statement.{statement}
+use Rattle.cipher.proofs.DesKeys.{once-first, once-at, twice, shift-word}
 use Rattle.cipher.proofs.des.shifted.Tie as tie
-use Rattle.cipher.proofs.des.shifted.Reads as reads
-use Rattle.cipher.proofs.des.shifted.Lts as lts
+use Rattle.cipher.proofs.des.shifted.Statement.{statement}
 
--- src/des.rt:204:14
 mul-result : tie.Need-mul-result
 mul-result c = search needs
 
--- src/des.rt:204:14
 add-result : tie.Need-add-result
 add-result c = search needs
 
--- src/des.rt:203:27
 mul-result-2 : tie.Need-mul-result-2
 mul-result-2 c = search needs
 
--- src/des.rt:203:27
 add-result-2 : tie.Need-add-result-2
 add-result-2 c = search needs
 
--- src/des.rt:196:1
 returns : tie.Need-returns
 returns c = let a = c .before .before in
     (shift-word 2 26 (a .args .c) (a .args .i) (a .pre .0) (twice (a .args .i) (a .pre .1) (c .if1 .left) (c .before .match .rest .1)), omega arith)
 
--- src/des.rt:196:1
 returns-2 : tie.Need-returns-2
 returns-2 c = let a = c .before in
     (shift-word 1 27 (a .args .c) (a .args .i) (a .pre .0) (⊎-elim (λ w. once-at (a .args .i) (w .keys1)) (λ w. once-first (a .args .i) (a .pre .1) (w .1 .taken)) (c .match .came)), omega arith)

@@ -1,43 +1,32 @@
-use Rattle.cipher.proofs.DesWords.{store-word}
 use borrow.Author.Needs.{needs}
+use Rattle.cipher.proofs.DesWords.{store-word}
 use Rattle.cipher.proofs.des.store.Statement.{statement}
 use Rattle.cipher.proofs.des.store.Tie as tie
-use Rattle.cipher.proofs.des.store.Reads as reads
-use Rattle.cipher.proofs.des.store.Lts as lts
 
--- src/des.rt:280:9
 cast-t3 : tie.Need-cast-t3
 cast-t3 c = search needs
 
--- src/des.rt:281:9
 cast-t6 : tie.Need-cast-t6
 cast-t6 c = search needs
 
--- src/des.rt:282:9
 cast-t9 : tie.Need-cast-t9
 cast-t9 c = search needs
 
--- src/des.rt:283:9
 cast-t12 : tie.Need-cast-t12
 cast-t12 c = search needs
 
--- src/des.rt:284:9
 cast-t15 : tie.Need-cast-t15
 cast-t15 c = search needs
 
--- src/des.rt:285:9
 cast-t18 : tie.Need-cast-t18
 cast-t18 c = search needs
 
--- src/des.rt:286:9
 cast-t21 : tie.Need-cast-t21
 cast-t21 c = search needs
 
--- src/des.rt:287:9
 cast-t23 : tie.Need-cast-t23
 cast-t23 c = search needs
 
--- src/des.rt:276:1
 returns : tie.Need-returns
 returns c = store-word (c .args .x) (c .fits .x .fits)
 

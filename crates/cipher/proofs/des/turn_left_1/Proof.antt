@@ -1,19 +1,14 @@
-use Rattle.cipher.proofs.BitWords.{bits-rotate}
 use borrow.Author.Needs.{needs}
-use Rattle.cipher.proofs.des.turn_left_1.Statement.{statement}
+use Rattle.cipher.proofs.BitWords.{bits-rotate}
 use Rattle.cipher.proofs.des.turn_left_1.Tie as tie
-use Rattle.cipher.proofs.des.turn_left_1.Reads as reads
-use Rattle.cipher.proofs.des.turn_left_1.Lts as lts
+use Rattle.cipher.proofs.des.turn_left_1.Statement.{statement}
 
--- src/des.rt:318:5
 mul-result : tie.Need-mul-result
 mul-result c = search needs
 
--- src/des.rt:318:5
 add-result : tie.Need-add-result
 add-result c = search needs
 
--- src/des.rt:315:1
 returns : tie.Need-returns
 returns c = bits-rotate 1 31 (c .args .x) (c .fits .x .fits)
 

@@ -1,19 +1,14 @@
-use Rattle.cipher.proofs.BitWords.{bits-rotate}
 use borrow.Author.Needs.{needs}
+use Rattle.cipher.proofs.BitWords.{bits-rotate}
 use Rattle.cipher.proofs.des.turn_right_4.Statement.{statement}
 use Rattle.cipher.proofs.des.turn_right_4.Tie as tie
-use Rattle.cipher.proofs.des.turn_right_4.Reads as reads
-use Rattle.cipher.proofs.des.turn_right_4.Lts as lts
 
--- src/des.rt:330:5
 mul-result : tie.Need-mul-result
 mul-result c = search needs
 
--- src/des.rt:330:5
 add-result : tie.Need-add-result
 add-result c = search needs
 
--- src/des.rt:327:1
 returns : tie.Need-returns
 returns c = bits-rotate 28 4 (c .args .x) (c .fits .x .fits)
 
