@@ -52,6 +52,26 @@ module _ (CIPH : List ℕ → List ℕ → List ℕ) (w : ℕ) where
   unfolding underEachBack
   back-done r = r .is ∙ rw sub-zero
 
+-- ---- what a cipher keeps, the folds keep
+module _ (E : List ℕ → List ℕ → List ℕ) (w : ℕ) (Good : List ℕ → Type 0) (stays : (k b : List ℕ) → Good b → Good (E k b)) where
+  good-under-from : (n : ℕ) (s keys : List ℕ) → Good s → Good (underFrom E w s n keys)
+  unfolding underFrom
+  good-under-from zero s keys g = g
+  good-under-from (suc n) s keys g = good-under-from n (E (take w keys) s) (drop w keys) (stays (take w keys) s g)
+
+  pub good-under : (keys s : List ℕ) → Good s → Good (underEach E w keys s)
+  unfolding underEach
+  good-under keys s g = good-under-from (length keys / w) s keys g
+
+  good-back-from : (n : ℕ) (s keys : List ℕ) → Good s → Good (backFrom E w s n keys)
+  unfolding backFrom
+  good-back-from zero s keys g = g
+  good-back-from (suc n) s keys g = stays (take w keys) (backFrom E w s n (drop w keys)) (good-back-from n s (drop w keys) g)
+
+  pub good-back : (keys s : List ℕ) → Good s → Good (underEachBack E w keys s)
+  unfolding underEachBack
+  good-back keys s g = good-back-from (length keys / w) s keys g
+
 -- ---- the way back undoes the fold, and the fold the way back, for a cipher whose two directions undo one another on good blocks
 module _ (E D : List ℕ → List ℕ → List ℕ) (w : ℕ) (Good : List ℕ → Type 0)
     (stays : (k b : List ℕ) → Good b → Good (E k b)) (undo : (k b : List ℕ) → Good b → D k (E k b) ≡ b) where
@@ -65,16 +85,11 @@ module _ (E D : List ℕ → List ℕ → List ℕ) (w : ℕ) (Good : List ℕ �
   unfolding underEach underEachBack
   back-under keys s g = back-under-from (length keys / w) s keys g
 
-  good-back : (n : ℕ) (s keys : List ℕ) → Good s → Good (backFrom E w s n keys)
-  unfolding backFrom
-  good-back zero s keys g = g
-  good-back (suc n) s keys g = stays (take w keys) (backFrom E w s n (drop w keys)) (good-back n s (drop w keys) g)
-
   under-back-from : (n : ℕ) (s keys : List ℕ) → Good s → underFrom D w (backFrom E w s n keys) n keys ≡ s
   unfolding underFrom backFrom
   under-back-from zero s keys g = refl
   under-back-from (suc n) s keys g =
-      ap (λ (t : List ℕ). underFrom D w t n (drop w keys)) (undo (take w keys) (backFrom E w s n (drop w keys)) (good-back n s (drop w keys) g))
+      ap (λ (t : List ℕ). underFrom D w t n (drop w keys)) (undo (take w keys) (backFrom E w s n (drop w keys)) (good-back-from E w Good stays n s (drop w keys) g))
       ∙ under-back-from n s (drop w keys) g
 
   -- with the cipher's directions exchanged: E here is the cipher's D

@@ -9,6 +9,7 @@ pub mod BitWords
 pub mod Blocks
 pub mod ByteLists
 pub mod Chains
+pub mod Ciphers
 pub mod Compare
 pub mod Copies
 pub mod DesInverse

@@ -85,6 +85,17 @@ module _ (CIPH : List ℕ → List ℕ) (w Rb : ℕ) (pos : 0 < w) where
       let z : CIPH (s ⊕ lastBlock CIPH w Rb (w - length (drop at m)) (drop at m)) ≡ macFrom CIPH w Rb s₀ (blocks w (length m) - 1) m = rw (blocks-one w (length m - at) pos h) at (r .goal) in
       g ∙ rw (f, e) (rw (length-drop at m) at z)
 
+  -- what the cipher always gives, a MAC is
+  module _ (Good : List ℕ → Type 0) (gives : (b : List ℕ) → Good (CIPH b)) where
+    mac-block-from : (n : ℕ) (s m : List ℕ) → Good (macFrom CIPH w Rb s n m)
+    unfolding macFrom
+    mac-block-from zero s m = gives (s ⊕ lastBlock CIPH w Rb (w - length m) m)
+    mac-block-from (suc n) s m = mac-block-from n (CIPH (s ⊕ take w m)) (drop w m)
+
+    pub mac-block : (m : List ℕ) → Good (cmac CIPH w Rb m)
+    unfolding cmac
+    mac-block m = mac-block-from (blocks w (length m) - 1) (replicate w 0) m
+
   -- CMAC of a string followed by the empty one
   pub cmac-alone : (first m : List ℕ) → length m ≡ 0 → macFrom CIPH w Rb (replicate w 0) (blocks w (length first) - 1) first ≡ cmac CIPH w Rb (first ++ m)
   unfolding cmac

@@ -1,3 +1,4 @@
+-- `des::d0` meets its contract: the four parts of D0 side by side. Assumes nothing.
 use native.Mathlib.Omega.{arith}
 use borrow.Author.Needs.{needs}
 use Rattle.cipher.proofs.DesKeys.{right-word}

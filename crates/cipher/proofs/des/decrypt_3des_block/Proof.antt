@@ -1,3 +1,4 @@
+-- `des::decrypt_3des_block` meets its contract: the three blocks, from what the calls ensure. Assumes nothing.
 use borrow.Author.Needs.{needs}
 use Rattle.cipher.proofs.DesPc2.{pc2, pc2-table}
 use Rattle.cipher.proofs.DesRounds.{encrypted, decrypted, tdea2-decrypted}
@@ -50,9 +51,13 @@ unfolding sp
 decrypt-with-requires-2 c κs = (sp-table, search needs)
 
 returns : tie.Need-returns
-returns c = let s1 = c .before .before .before .before .before .before .before .before .before .before .before .schedule in
-    let s2 = c .before .before .before .before .before .before .before .before .before .schedule2 in
-    tdea2-decrypted _ _ _ _ _ _ (decrypted _ _ _ (s1 .result) (s1 .ensures) (c .before .before .before .before .before .before .decrypt-with .ensures)) (encrypted _ _ _ (s2 .result) (s2 .ensures) (c .before .before .before .encrypt-with .ensures)) (decrypted _ _ _ (s1 .result) (s1 .ensures) (c .decrypt-with2 .ensures))
+returns c =
+    let twice = c .before .before .before in
+    let once = twice .before .before .before in
+    let s2 = once .before .before .before .schedule2 in
+    let s1 = once .before .before .before .before .before .schedule in
+    tdea2-decrypted _ _ _ _ _ _ (decrypted _ _ _ (s1 .result) (s1 .ensures) (once .decrypt-with .ensures))
+    (encrypted _ _ _ (s2 .result) (s2 .ensures) (twice .encrypt-with .ensures)) (decrypted _ _ _ (s1 .result) (s1 .ensures) (c .decrypt-with2 .ensures))
 
 pub decrypt-3des-block-spec : {M : Type 1} → statement M
 decrypt-3des-block-spec =

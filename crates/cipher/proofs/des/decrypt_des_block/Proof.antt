@@ -1,3 +1,4 @@
+-- `des::decrypt_des_block` meets its contract: the tables that it lends follow their rules, and the calls do the rest. Assumes nothing.
 use borrow.Author.Needs.{needs}
 use Rattle.cipher.proofs.DesPc2.{pc2, pc2-table}
 use Rattle.cipher.proofs.DesRounds.{decrypted}
@@ -23,7 +24,8 @@ unfolding sp
 decrypt-with-requires c κs = (sp-table, search needs)
 
 returns : tie.Need-returns
-returns c = let s = c .before .before .before .schedule in
+returns c =
+    let s = c .before .before .before .schedule in
     decrypted _ _ _ (s .result) (s .ensures) (c .decrypt-with .ensures)
 
 pub decrypt-des-block-spec : {M : Type 1} → statement M

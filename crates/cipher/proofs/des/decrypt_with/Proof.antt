@@ -1,3 +1,4 @@
+-- `des::decrypt_with` meets its contract: the loop's invariant is that of `encrypt_with`, with the keys in the other order. Assumes nothing.
 use mathlib.Core.List.{map, reverse}
 use mathlib.Core.Path.{_≡_, refl, _∙_}
 use Prim.Native.Nat.{_-_, _≤_}
@@ -47,21 +48,28 @@ loop-less : tie.Need-loop-less Inv-loop μ-loop
 loop-less c = search needs
 
 loop-again : tie.Need-loop-again Inv-loop μ-loop
-loop-again c = let a = c .before .before .before .before .before .before .before .before .before in
+loop-again c =
+    let h = c .before .before .before in
+    let a = h .before .before .before .before .before .before in
     let ks = a .args .ks .now in
-    let i = c .before .before .before .loop .i in
+    let i = h .loop .i in
     let long : length (reverse (map keyBits ks)) ≡ 16 = length-reverse (map keyBits ks) ∙ length-map ks keyBits ∙ a .pre .1 in
-    (omega arith, rounds-turn (reverse (map keyBits ks)) _ _ _ _ i _ _ (c .before .before .before .loop .inv .1) (omega arith) (key-back ks 15 i (a .pre .1) (omega arith)) (c .mangle .ensures))
+    (omega arith, rounds-turn (reverse (map keyBits ks)) _ _ _ _ i _ _ (h .loop .inv .1) (omega arith) (key-back ks 15 i (a .pre .1) (omega arith)) (c .mangle .ensures))
 
 last-requires : tie.Need-last-requires Inv-loop μ-loop
 last-requires c κs = search needs
 
 returns : tie.Need-returns Inv-loop μ-loop
-returns c = let a = c .before .before .before .before .before .before .before .before in
+returns c =
+    let h = c .before .before in
+    let r = h .before in
+    let l = r .before in
+    let x = l .before in
+    let a = x .before .before .before in
     let ks = a .args .ks .now in
-    let i = c .before .before .loop .i in
     let long : length (reverse (map keyBits ks)) ≡ 16 = length-reverse (map keyBits ks) ∙ length-map ks keyBits ∙ a .pre .1 in
-    crypt-word (reverse (map keyBits ks)) (toBits (a .args .block)) _ _ _ _ _ _ (c .before .before .before .before .before .initial .ensures) (c .before .before .before .before .left .ensures) (c .before .before .before .right .ensures) (rounds-done (reverse (map keyBits ks)) _ _ _ _ i (c .before .before .loop .inv .1) (omega arith)) (c .last .ensures)
+    crypt-word (reverse (map keyBits ks)) (toBits (a .args .block)) _ _ _ _ _ _ (x .initial .ensures) (l .left .ensures) (r .right .ensures)
+    (rounds-done (reverse (map keyBits ks)) _ _ _ _ (h .loop .i) (h .loop .inv .1) (omega arith)) (c .last .ensures)
 
 pub decrypt-with-spec : {M : Type 1} → statement M
 decrypt-with-spec =

@@ -1,3 +1,4 @@
+-- `des::delta_swap` meets its contract: by its definition. Assumes nothing.
 use mathlib.Core.Path.{refl}
 use borrow.Author.Needs.{needs}
 use Rattle.cipher.specs.DesTables.{deltaSwap}

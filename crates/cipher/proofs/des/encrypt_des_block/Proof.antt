@@ -1,3 +1,4 @@
+-- `des::encrypt_des_block` meets its contract: the tables that it lends follow their rules, and the calls do the rest. Assumes nothing.
 use borrow.Author.Needs.{needs}
 use Rattle.cipher.proofs.DesPc2.{pc2, pc2-table}
 use Rattle.cipher.proofs.DesRounds.{encrypted}
@@ -23,7 +24,8 @@ unfolding sp
 encrypt-with-requires c κs = (sp-table, search needs)
 
 returns : tie.Need-returns
-returns c = let s = c .before .before .before .schedule in
+returns c =
+    let s = c .before .before .before .schedule in
     encrypted _ _ _ (s .result) (s .ensures) (c .encrypt-with .ensures)
 
 pub encrypt-des-block-spec : {M : Type 1} → statement M

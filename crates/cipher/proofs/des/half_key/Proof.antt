@@ -1,3 +1,4 @@
+-- `des::half_key` meets its contract: the sum of four entries of the table. Assumes nothing.
 use mathlib.Core.Path.{ap₂, _∙_}
 use borrow.Author.Needs.{needs}
 use Rattle.cipher.specs.Bits.{_⊞_}
@@ -27,7 +28,13 @@ pick7-requires-4 : tie.Need-pick7-requires-4
 pick7-requires-4 c κs = search needs
 
 returns : tie.Need-returns
-returns c = bits-xor 32 _ _ ∙ ap₂ _⊞_ (c .before .before .before .pick7 .ensures) (bits-xor 32 _ _ ∙ ap₂ _⊞_ (c .before .before .pick72 .ensures) (bits-xor 32 _ _ ∙ ap₂ _⊞_ (c .before .pick73 .ensures) (c .pick74 .ensures)))
+returns c =
+    let p3 = c .before in
+    let p2 = p3 .before in
+    let p1 = p2 .before in
+    bits-xor 32 _ _
+    ∙ ap₂ _⊞_ (p1 .pick7 .ensures)
+    (bits-xor 32 _ _ ∙ ap₂ _⊞_ (p2 .pick72 .ensures) (bits-xor 32 _ _ ∙ ap₂ _⊞_ (p3 .pick73 .ensures) (c .pick74 .ensures)))
 
 pub half-key-spec : {M : Type 1} → statement M
 half-key-spec =

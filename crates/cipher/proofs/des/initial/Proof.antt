@@ -1,3 +1,4 @@
+-- `des::initial` meets its contract: two exchanges of the transpose of the block. Assumes nothing.
 use mathlib.Core.Path.{_≡_}
 use borrow.Author.Needs.{needs}
 use lib.ListN.{length}
@@ -18,8 +19,13 @@ delta-swap-requires-2 : tie.Need-delta-swap-requires-2
 delta-swap-requires-2 c κs = search needs
 
 returns : tie.Need-returns
-returns c = let h : length (c .before .before .before .before .args .block) ≡ 8 = search needs in
-    initial-word (c .before .before .before .before .args .block) _ _ _ _ h (c .before .before .before .load .ensures) (c .before .before .transpose .ensures) (c .before .delta-swap .ensures) (c .delta-swap2 .ensures)
+returns c =
+    let z = c .before in
+    let y = z .before in
+    let x = y .before in
+    let block = x .before .args .block in
+    let h : length block ≡ 8 = search needs in
+    initial-word block _ _ _ _ h (x .load .ensures) (y .transpose .ensures) (z .delta-swap .ensures) (c .delta-swap2 .ensures)
 
 pub initial-spec : {M : Type 1} → statement M
 initial-spec =

@@ -1,3 +1,4 @@
+-- `des::last` meets its contract: the exchanges of `initial` the other way. Assumes nothing.
 use Prim.Native.Nat.{_<_, _^_}
 use native.Mathlib.Omega.{arith}
 use borrow.Author.Needs.{needs}
@@ -27,8 +28,17 @@ store-requires : tie.Need-store-requires
 store-requires c κs = search needs
 
 returns : tie.Need-returns
-returns c = let h : c .before .before .before .before .before .turn-right-12 .result < 2 ^ 32 = omega arith in
-    last-word (c .before .before .before .before .before .before .before .args .l) (c .before .before .before .before .before .before .before .args .r) _ _ _ _ _ _ _ (c .before .before .before .before .before .before .turn-right-1 .ensures) (c .before .before .before .before .before .turn-right-12 .ensures) h (c .before .before .before .before .joined .ensures) (c .before .before .before .delta-swap .ensures) (c .before .before .delta-swap2 .ensures) (c .before .transpose .ensures) (c .store .ensures)
+returns c =
+    let t = c .before in
+    let z = t .before in
+    let y = z .before in
+    let x = y .before in
+    let r = x .before in
+    let l = r .before in
+    let a = l .before in
+    let h : r .turn-right-12 .result < 2 ^ 32 = omega arith in
+    last-word (a .args .l) (a .args .r) _ _ _ _ _ _ _ (l .turn-right-1 .ensures) (r .turn-right-12 .ensures) h (x .joined .ensures)
+    (y .delta-swap .ensures) (z .delta-swap2 .ensures) (t .transpose .ensures) (c .store .ensures)
 
 pub last-spec : {M : Type 1} → statement M
 last-spec =

@@ -1,3 +1,4 @@
+-- `des::left` meets its contract: the low half of x, turned. Assumes nothing.
 use mathlib.Core.Path.{ap, _∙_}
 use native.Mathlib.Nat.{le-refl}
 use borrow.Author.Needs.{needs}

@@ -1,3 +1,4 @@
+-- `des::load` meets its contract: eight bytes side by side. Assumes nothing.
 use mathlib.Core.Path.{_≡_}
 use borrow.Author.Needs.{needs}
 use lib.ListN.{length}
@@ -96,8 +97,18 @@ add-result-7 : tie.Need-add-result-7
 add-result-7 c = search needs
 
 returns : tie.Need-returns
-returns c = let h : length (c .before .before .before .before .before .before .before .before .args .t1) ≡ 8 = search needs in
-    load-word (c .before .before .before .before .before .before .before .before .args .t1) _ _ _ _ _ _ _ _ h (c .wide8 .ensures) (c .before .wide7 .ensures) (c .before .before .wide6 .ensures) (c .before .before .before .wide5 .ensures) (c .before .before .before .before .wide4 .ensures) (c .before .before .before .before .before .wide3 .ensures) (c .before .before .before .before .before .before .wide2 .ensures) (c .before .before .before .before .before .before .before .wide .ensures)
+returns c =
+    let b = c .before .before .before .before .before .before .before .before .args .t1 in
+    let h : length b ≡ 8 = search needs in
+    let w7 = c .before in
+    let w6 = w7 .before in
+    let w5 = w6 .before in
+    let w4 = w5 .before in
+    let w3 = w4 .before in
+    let w2 = w3 .before in
+    let w1 = w2 .before in
+    load-word b _ _ _ _ _ _ _ _ h (c .wide8 .ensures) (w7 .wide7 .ensures) (w6 .wide6 .ensures) (w5 .wide5 .ensures)
+    (w4 .wide4 .ensures) (w3 .wide3 .ensures) (w2 .wide2 .ensures) (w1 .wide .ensures)
 
 pub load-spec : {M : Type 1} → statement M
 load-spec =

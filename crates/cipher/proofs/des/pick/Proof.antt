@@ -1,3 +1,4 @@
+-- `des::pick` meets its contract: the rule of the table at its index. Assumes nothing.
 use borrow.Author.Needs.{needs}
 use Rattle.cipher.proofs.DesRounds.{sp-pick}
 use Rattle.cipher.proofs.des.pick.Tie as tie
@@ -19,7 +20,8 @@ shared-slice-read-result : tie.Need-shared-slice-read-result
 shared-slice-read-result c = search needs
 
 returns : tie.Need-returns
-returns c = let a = c .before in
+returns c =
+    let a = c .before in
     sp-pick _ (a .args .j) (a .args .x) (a .pre .0) (a .pre .1)
 
 pub pick-spec : {M : Type 1} → statement M

@@ -1,3 +1,4 @@
+-- `des::right` meets its contract: the high half of x, turned. Assumes nothing.
 use mathlib.Core.Path.{ap, _∙_}
 use borrow.Author.Needs.{needs}
 use Rattle.cipher.specs.Bits.{bits}

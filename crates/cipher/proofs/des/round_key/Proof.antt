@@ -1,3 +1,4 @@
+-- `des::round_key` meets its contract: the groups of both halves, side by side. Assumes nothing.
 use Prim.Native.Nat.{_<_, _^_}
 use native.Mathlib.Omega.{arith}
 use borrow.Author.Needs.{needs}
@@ -27,7 +28,8 @@ joined-requires : tie.Need-joined-requires
 joined-requires c κs = search needs
 
 returns : tie.Need-returns
-returns c = let a = c .before .before .before .before in
+returns c =
+    let a = c .before .before .before .before in
     let hx : c .before .before .half-key .result < 2 ^ 32 = omega arith in
     let hy : c .before .half-key2 .result < 2 ^ 32 = omega arith in
     key-word (a .args .c) (a .args .d) _ _ _ hx hy (c .before .before .half-key .ensures) (c .before .half-key2 .ensures) (c .joined .ensures)

@@ -1,3 +1,4 @@
+-- `des::schedule` meets its contract: the loop's invariant: the keys that are made, with those that c and d still give, are all of them. Assumes nothing.
 use mathlib.Core.Path.{_≡_, refl, _∙_}
 use Prim.Native.Nat.{_-_, _^_, _<_}
 use native.Mathlib.Omega.{arith}
@@ -28,7 +29,8 @@ d0-requires : tie.Need-d0-requires Inv-loop μ-loop
 d0-requires c κs = search needs
 
 loop-holds : tie.Need-loop-holds Inv-loop μ-loop
-loop-holds c = let h : c .before .c0 .result < 2 ^ 28 = omega (arith, c .before .c0 .ensures) in
+loop-holds c =
+    let h : c .before .c0 .result < 2 ^ 28 = omega (arith, c .before .c0 .ensures) in
     keys-start _ _ _ refl h (c .d0 .ensures .1)
 
 shifted-requires : tie.Need-shifted-requires Inv-loop μ-loop
@@ -53,12 +55,23 @@ loop-less : tie.Need-loop-less Inv-loop μ-loop
 loop-less c = search needs
 
 loop-again : tie.Need-loop-again Inv-loop μ-loop
-loop-again c = keys-turn _ _ _ (c .before .before .before .before .loop .inv) (c .before .before .before .loop-test .taken) (c .before .before .shifted .ensures) (c .before .shifted2 .ensures) (c .round-key .ensures)
+loop-again c =
+    let d = c .before in
+    let e = d .before in
+    let t = e .before in
+    keys-turn _ _ _ (t .before .loop .inv) (t .loop-test .taken) (e .shifted .ensures) (d .shifted2 .ensures) (c .round-key .ensures)
 
 returns : tie.Need-returns Inv-loop μ-loop
-returns c = let a = c .before .before .before .before .before .before .before in
-    let h : length (a .args .key) ≡ 8 = search needs in
-    keys-done (c .before .loop .inv) (c .loop-test .left) ∙ keys-all (a .args .key) _ _ h (c .before .before .before .before .before .load .ensures) (c .before .before .before .before .transpose .ensures) _ _ (c .before .before .before .c0 .ensures) (c .before .before .d0 .ensures .0)
+returns c =
+    let l = c .before in
+    let d = l .before in
+    let e = d .before in
+    let y = e .before in
+    let x = y .before in
+    let key = x .before .before .args .key in
+    let h : length key ≡ 8 = search needs in
+    keys-done (l .loop .inv) (c .loop-test .left)
+    ∙ keys-all key _ _ h (x .load .ensures) (y .transpose .ensures) _ _ (e .c0 .ensures) (d .d0 .ensures .0)
 
 pub schedule-spec : {M : Type 1} → statement M
 schedule-spec =

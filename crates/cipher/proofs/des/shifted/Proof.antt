@@ -1,3 +1,4 @@
+-- `des::shifted` meets its contract: a turn of 28 bits by one place or two. Assumes nothing.
 use mathlib.Core.Logic.{⊎-elim}
 use native.Mathlib.Omega.{arith}
 use borrow.Author.Needs.{needs}
@@ -18,12 +19,17 @@ add-result-2 : tie.Need-add-result-2
 add-result-2 c = search needs
 
 returns : tie.Need-returns
-returns c = let a = c .before .before in
-    (shift-word 2 26 (a .args .c) (a .args .i) (a .pre .0) (twice (a .args .i) (a .pre .1) (c .if1 .left) (c .before .match .rest .1)), omega arith)
+returns c =
+    let a = c .before .before in
+    let i = a .args .i in
+    (shift-word 2 26 (a .args .c) i (a .pre .0) (twice i (a .pre .1) (c .if1 .left) (c .before .match .rest .1)), omega arith)
 
 returns-2 : tie.Need-returns-2
-returns-2 c = let a = c .before in
-    (shift-word 1 27 (a .args .c) (a .args .i) (a .pre .0) (⊎-elim (λ w. once-at (a .args .i) (w .keys1)) (λ w. once-first (a .args .i) (a .pre .1) (w .1 .taken)) (c .match .came)), omega arith)
+returns-2 c =
+    let a = c .before in
+    let i = a .args .i in
+    let h = ⊎-elim (λ w. once-at i (w .keys1)) (λ w. once-first i (a .pre .1) (w .1 .taken)) (c .match .came) in
+    (shift-word 1 27 (a .args .c) i (a .pre .0) h, omega arith)
 
 pub shifted-spec : {M : Type 1} → statement M
 shifted-spec =

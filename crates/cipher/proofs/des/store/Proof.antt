@@ -1,3 +1,4 @@
+-- `des::store` meets its contract: the eight bytes of a word. Assumes nothing.
 use borrow.Author.Needs.{needs}
 use Rattle.cipher.proofs.DesWords.{store-word}
 use Rattle.cipher.proofs.des.store.Statement.{statement}

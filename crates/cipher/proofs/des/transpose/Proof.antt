@@ -1,3 +1,4 @@
+-- `des::transpose` meets its contract: three exchanges. Assumes nothing.
 use borrow.Author.Needs.{needs}
 use Rattle.cipher.proofs.DesWords.{transpose-word}
 use Rattle.cipher.proofs.des.transpose.Tie as tie
@@ -13,7 +14,8 @@ delta-swap-requires-3 : tie.Need-delta-swap-requires-3
 delta-swap-requires-3 c κs = search needs
 
 returns : tie.Need-returns
-returns c = let a = c .before .before .before in
+returns c =
+    let a = c .before .before .before in
     transpose-word (a .args .x) _ _ _ (c .before .before .delta-swap .ensures) (c .before .delta-swap2 .ensures) (c .delta-swap3 .ensures)
 
 pub transpose-spec : {M : Type 1} → statement M

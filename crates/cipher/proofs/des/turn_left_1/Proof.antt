@@ -1,3 +1,4 @@
+-- `des::turn_left_1` meets its contract: a turn of 32 bits. Assumes nothing.
 use borrow.Author.Needs.{needs}
 use Rattle.cipher.proofs.BitWords.{bits-rotate}
 use Rattle.cipher.proofs.des.turn_left_1.Tie as tie
