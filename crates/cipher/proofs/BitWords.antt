@@ -3,16 +3,16 @@ use mathlib.Core.Path.{_≡_, refl, sym, ap, ap₂, _∙_}
 use mathlib.Core.Bool.{Bool, true, false}
 use mathlib.Core.List.{List, [], _∷_, _++_, append-assoc, append-nil}
 use Prim.Native.Nat.{ℕ, zero, suc, _+_, _-_, _*_, _/_, _%_, _^_, _≤_, _<_, min}
-use native.Mathlib.Nat.{mod-lt, add-zero, add-suc, suc-add, zero-add, le-of-suc-le-suc, not-suc-le-zero, div-one, mul-one, le-refl, mul-assoc, add-assoc, pow-suc, div-eq-of-lt, lt-of-lt-of-le}
+use native.Mathlib.Nat.{mod-lt, add-zero, add-suc, suc-add, zero-add, div-one, mul-one, le-refl, mul-assoc, add-assoc, pow-suc, div-eq-of-lt, lt-of-lt-of-le}
 use native.Mathlib.Numerals.{add-one, one-add}
 use native.Mathlib.Decide.{decLe}
 use native.Mathlib.Omega.{arith}
 use lib.Arith.{digits-div, digits-mod, digits-lt, lt-one}
 use borrow.Author.Tests.{le-leb, lt-leb}
-use lib.Dec.{leb, lit<, T}
+use lib.Dec.{leb, lit<}
 use lib.ListN.{length, take, drop, getD, replicate, length-append, length-replicate, replicate-append-replicate, length-take, length-drop, take-append-drop}
 use lib.Seq.{take-at, drop-at, length-take-le}
-use lib.Pow.{pow-pos, pow-mono, pow-add, shr-shr, shl-shr, field, mod-mod-pow, split, high, low, shr-lt}
+use lib.Pow.{pow-pos, pow-mono, pow-add, shr-shr, shl-shr, field, mod-mod-pow, split, shr-lt}
 use lib.Bits.{bitXor, bitAnd, differ, and-step, xor-shr, and-shr, block-half, block-odd, shifted-even}
 use Rattle.cipher.specs.Bits.{bool, digit, bits, num, numFrom, differs, _⊞_, toBits, toBytes}
 use Rattle.cipher.specs.Bytes.{Bytes}

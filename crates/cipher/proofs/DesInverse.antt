@@ -6,11 +6,12 @@ use Prim.Native.Nat.{ℕ, _*_}
 use native.Mathlib.Omega.{arith}
 use lib.ListN.{length, take, drop, length-append, length-drop, take-append-drop}
 use lib.Seq.{length-take-le, take-at, drop-at}
-use Rattle.cipher.specs.Bits.{num, _⊞_, toBits, toBytes}
+use Rattle.cipher.specs.Bits.{num, toBits, toBytes}
 use Rattle.cipher.specs.Bytes.{Bytes}
 use Rattle.cipher.specs.Fips46.{select, IP, IP⁻¹, P, f, Halves, round, rounds, crypt, KS, encipher, decipher}
 use Rattle.cipher.specs.Fips46.{desEncrypt, desDecrypt, tdeaEncrypt, tdeaDecrypt, tdea2Encrypt, tdea2Decrypt}
-use Rattle.cipher.proofs.BitWords.{bitAt, down, down-num, length-select, length-⊞, ⊞-twice, length-toBytes, Bytes-toBytes, toBits-toBytes, toBytes-toBits, length-toBits}
+use Rattle.cipher.proofs.BitWords.{bitAt, down, down-num, length-select, length-⊞, ⊞-twice, length-toBytes, Bytes-toBytes, toBits-toBytes, toBytes-toBits}
+use Rattle.cipher.proofs.BitWords.{length-toBits}
 use Rattle.cipher.proofs.DesRounds.{halves}
 
 -- ---- the rounds
@@ -65,10 +66,14 @@ unfolding select IP IP⁻¹ down
 ip-last g = refl
 
 ip-back : (b : List Bool) → length b ≡ 64 → select IP⁻¹ (select IP b) ≡ b
-ip-back b h = let e : b ≡ down 64 (bitAt (num b)) = down-num 64 b h in ap (λ (l : List Bool). select IP⁻¹ (select IP l)) e ∙ ip-first (bitAt (num b)) ∙ sym e
+ip-back b h =
+    let e : b ≡ down 64 (bitAt (num b)) = down-num 64 b h in
+    ap (λ (l : List Bool). select IP⁻¹ (select IP l)) e ∙ ip-first (bitAt (num b)) ∙ sym e
 
 ip-forth : (b : List Bool) → length b ≡ 64 → select IP (select IP⁻¹ b) ≡ b
-ip-forth b h = let e : b ≡ down 64 (bitAt (num b)) = down-num 64 b h in ap (λ (l : List Bool). select IP (select IP⁻¹ l)) e ∙ ip-last (bitAt (num b)) ∙ sym e
+ip-forth b h =
+    let e : b ≡ down 64 (bitAt (num b)) = down-num 64 b h in
+    ap (λ (l : List Bool). select IP (select IP⁻¹ l)) e ∙ ip-last (bitAt (num b)) ∙ sym e
 
 length-crypt : (ks : List (List Bool)) (b : List Bool) → length (crypt ks b) ≡ 64
 unfolding crypt IP⁻¹
@@ -94,7 +99,8 @@ crypt-back ks b h =
     let w : Whole e = rounds-whole ks (start b) (start-whole b) in
     let n : length (e .R ++ e .L) ≡ 64 = length-append (e .R) (e .L) ∙ omega (arith, w .0, w .1) in
     let p : select IP (select IP⁻¹ (e .R ++ e .L)) ≡ e .R ++ e .L = ip-forth (e .R ++ e .L) n in
-    let q : start (select IP⁻¹ (e .R ++ e .L)) ≡ turned e = ap₂ halves (ap (take 32) p ∙ take-at (e .R) (e .L) 32 (w .1)) (ap (drop 32) p ∙ drop-at (e .R) (e .L) 32 (w .1)) in
+    let q : start (select IP⁻¹ (e .R ++ e .L)) ≡ turned e =
+    ap₂ halves (ap (take 32) p ∙ take-at (e .R) (e .L) 32 (w .1)) (ap (drop 32) p ∙ drop-at (e .R) (e .L) 32 (w .1)) in
     ap (λ (t : Halves). select IP⁻¹ (t .R ++ t .L)) (ap (rounds (reverse ks)) q ∙ rounds-back ks (start b) (start-whole b))
     ∙ ap (select IP⁻¹) (take-append-drop 32 (select IP b))
     ∙ ip-back b h

@@ -3,7 +3,7 @@ use mathlib.Core.Path.{_≡_, refl, sym, ap, ap₂, _∙_}
 use mathlib.Core.Bool.{Bool, true, false}
 use mathlib.Core.List.{List, [], _∷_, _++_, append-assoc, append-nil, map, reverse}
 use Prim.Native.Nat.{ℕ, zero, suc, _+_, _-_, _*_, _/_, _%_, _^_, _≤_, _<_}
-use native.Mathlib.Nat.{le-refl, mod-lt}
+use native.Mathlib.Nat.{le-refl}
 use native.Mathlib.Omega.{arith}
 use borrow.Author.Tests.{lt-ltb, le-ltb, ne-eqb}
 use mathlib.Core.Logic.{_⊎_, inl, inr}
@@ -17,7 +17,8 @@ use Rattle.cipher.specs.Bits.{bits, num, _⊞_, toBits}
 use Rattle.cipher.specs.Bytes.{tab}
 use Rattle.cipher.specs.Fips46.{select, leftShift, shifts, keysFrom, KS, PC1, PC2}
 use Rattle.cipher.specs.DesTables.{among, packed, places, pc2Bits, Pc2Table, transposed, keyBits}
-use Rattle.cipher.proofs.BitWords.{bitAt, down, bits-down, bits-shr, length-bits, length-select, bits-mod, bits-join, bits-split, bits-rotate, bits-num, select-append}
+use Rattle.cipher.proofs.BitWords.{bitAt, down, bits-down, bits-shr, length-bits, length-select, bits-mod, bits-join, bits-split, bits-rotate, bits-num}
+use Rattle.cipher.proofs.BitWords.{select-append}
 use Rattle.cipher.proofs.DesWords.{mirrored, loaded}
 use Rattle.cipher.proofs.Table.{at}
 
@@ -215,7 +216,6 @@ keys-step : (i c d c′ d′ k : ℕ) → i < 16 → bits 28 c′ ≡ leftShift 
     → keyBits k ∷ keysFrom (drop (suc i) shifts) (bits 28 c′) (bits 28 d′) ≡ keysFrom (drop i shifts) (bits 28 c) (bits 28 d)
 unfolding keysFrom shifts
 keys-step i c d c′ d′ k h p q e =
-    let n : ℕ = getD shifts i 0 in
     ap₂ _∷_ (e ∙ ap₂ (λ (a b : List Bool). select PC2 (a ++ b)) p q) (ap₂ (keysFrom (drop (suc i) shifts)) p q)
     ∙ ap (λ (ns : List ℕ). keysFrom ns (bits 28 c) (bits 28 d)) (sym (drop-cons shifts i 0 h))
 
@@ -243,7 +243,13 @@ keys-turn {goal} {c} {d} {ks} {i} c′ d′ k r h p q e =
       long = length-set ks i k ∙ r .long;
       small-c = p .1;
       small-d = q .1;
-      rest = rw (add-one i) (ap₂ _++_ (ap (map keyBits) (take-suc-set ks i k (omega (arith, r .long))) ∙ map-append keyBits (take i ks) (k ∷ [])) refl ∙ append-assoc (map keyBits (take i ks)) (keyBits k ∷ []) _ ∙ ap (λ (l : List (List Bool)). map keyBits (take i ks) ++ l) (keys-step i c d c′ d′ k h (p .0) (q .0) e) ∙ r .rest);
+      rest =
+          rw (add-one i)
+          (ap (λ (l : List (List Bool)). l ++ keysFrom (drop (suc i) shifts) (bits 28 c′) (bits 28 d′))
+          (ap (map keyBits) (take-suc-set ks i k (omega (arith, r .long))) ∙ map-append keyBits (take i ks) (k ∷ []))
+          ∙ append-assoc (map keyBits (take i ks)) (keyBits k ∷ []) (keysFrom (drop (suc i) shifts) (bits 28 c′) (bits 28 d′))
+          ∙ ap (λ (l : List (List Bool)). map keyBits (take i ks) ++ l) (keys-step i c d c′ d′ k h (p .0) (q .0) e)
+          ∙ r .rest);
     }
 
 pub keys-done : {goal : List (List Bool)} {c d : ℕ} {ks : List ℕ} {i : ℕ} → Keys goal c d ks i → 16 ≤ i → map keyBits ks ≡ goal

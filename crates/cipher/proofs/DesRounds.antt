@@ -1,6 +1,6 @@
 -- The function f on words by the table SP, and the loops over the sixteen rounds. Assumes nothing.
 use mathlib.Core.Path.{_≡_, refl, sym, ap, ap₂, _∙_}
-use mathlib.Core.Bool.{Bool, true, false}
+use mathlib.Core.Bool.{Bool}
 use mathlib.Core.List.{List, [], _∷_, _++_, append-nil, map, reverse, reverse-cons}
 use Prim.Native.Nat.{ℕ, zero, suc, _+_, _-_, _*_, _/_, _%_, _^_, _≤_, _<_}
 use native.Mathlib.Nat.{le-refl, le-of-eq, add-zero, le-of-suc-le-suc, not-suc-le-zero}
@@ -9,13 +9,14 @@ use native.Mathlib.Numerals.{add-one}
 use native.Mathlib.Omega.{arith}
 use lib.Pow.{shr-shr, field}
 use lib.Bits.{bitXor, xor-shr}
-use lib.ListN.{length, take, drop, getD, length-append, length-map, length-reverse, drop-of-length-le, List·getD-map, List·getD-append}
+use lib.ListN.{length, take, drop, getD, length-append, length-map, length-reverse, drop-of-length-le, List·getD-append}
 use lib.Seq.{take-at, drop-at, drop-cons, getD-at, take-all}
 use Rattle.cipher.specs.Bits.{bits, num, _⊞_, toBits, toBytes}
-use Rattle.cipher.specs.Fips46.{select, leftShift, substitute, substituteAll, f, P, E, IP, IP⁻¹, S1, S2, S3, S4, S5, S6, S7, S8, Halves, round, rounds, crypt, KS}
+use Rattle.cipher.specs.Fips46.{select, leftShift, substitute, substituteAll, f, P, E, IP, IP⁻¹, S1, S2, S3, S4, S5, S6, S7, S8, Halves, round, rounds, crypt}
+use Rattle.cipher.specs.Fips46.{KS}
 use Rattle.cipher.specs.Fips46.{encipher, decipher, desEncrypt, desDecrypt, tdeaEncrypt, tdeaDecrypt, tdea2Encrypt, tdea2Decrypt}
 use Rattle.cipher.specs.DesTables.{among, held, keyBits, box, spBits, SpTable}
-use Rattle.cipher.proofs.BitWords.{bitAt, down, down-ext, bits-down, bits-shr, length-bits, length-select, bits-mod, bits-num, bits-xor, ⊞-append, length-⊞, select-append}
+use Rattle.cipher.proofs.BitWords.{bitAt, down, bits-down, bits-shr, length-bits, bits-mod, bits-num, bits-xor, ⊞-append, select-append}
 
 -- ---- halves that are held turned left by one place
 
@@ -252,7 +253,8 @@ pub rounds-turn : (ks : List (List Bool)) (l₀ r₀ l r i x : ℕ) (k : List Bo
 unfolding rounds round
 rounds-turn ks l₀ r₀ l r i x k h b e q =
     rw (add-one i)
-    (ap (λ (t : List Bool). rounds (drop (suc i) ks) (halves (held r) t)) (held-xor l x ∙ ap (λ (t : List Bool). held l ⊞ t) (q ∙ ap (f (held r)) (sym e)))
+    (ap (λ (t : List Bool). rounds (drop (suc i) ks) (halves (held r) t))
+    (held-xor l x ∙ ap (λ (t : List Bool). held l ⊞ t) (q ∙ ap (f (held r)) (sym e)))
     ∙ ap (λ (t : List (List Bool)). rounds t (state l r)) (sym (drop-cons ks i [] b))
     ∙ h)
 

@@ -10,13 +10,14 @@ use borrow.Author.Tests.{le-leb, lt-leb}
 use lib.Dec.{leb, lit<}
 use lib.Pow.{high, low}
 use lib.Bits.{bitAnd, bitXor}
-use lib.ListN.{length, take, drop, getD}
+use lib.ListN.{length, getD}
 use lib.Seq.{take-at, drop-at}
-use Rattle.cipher.specs.Bits.{bool, bits, num, differs, _⊞_, toBits, toBytes}
+use Rattle.cipher.specs.Bits.{bool, bits, num, differs, toBits, toBytes}
 use Rattle.cipher.specs.Bytes.{tab}
-use Rattle.cipher.specs.Fips46.{select, leftShift, IP, IP⁻¹, PC1}
+use Rattle.cipher.specs.Fips46.{select, leftShift, IP, IP⁻¹}
 use Rattle.cipher.specs.DesTables.{deltaSwap, transposed, held}
-use Rattle.cipher.proofs.BitWords.{bitAt, down, down-ext, bits-down, bits-shr, length-bits, bits-mod, bit-shr, bit-xor, bit-and, bit-high, under, ifSet, up, bit-shl, bits-join, bits-split, num-low}
+use Rattle.cipher.proofs.BitWords.{bitAt, down, down-ext, bits-down, bits-shr, length-bits, bits-mod, bit-shr, bit-xor, bit-and, bit-high, under, ifSet, up}
+use Rattle.cipher.proofs.BitWords.{bit-shl, bits-join, bits-split, num-low}
 
 -- ---- delta swaps
 
@@ -94,7 +95,8 @@ swapped x m s g b e j l = swap-at x m s j l ∙ swap-agree (bitAt x) g m s j b e
 
 -- ---- the transpose
 
-pub transpose-bits : (g : ℕ → Bool) → down 64 (swap 28 (bitAt 0xf0f0f0f0) (swap 14 (bitAt 0xcccc0000cccc) (swap 7 (bitAt 0xaa00aa00aa00aa) g))) ≡ select transposed (down 64 g)
+transpose-bits : (g : ℕ → Bool)
+    → down 64 (swap 28 (bitAt 0xf0f0f0f0) (swap 14 (bitAt 0xcccc0000cccc) (swap 7 (bitAt 0xaa00aa00aa00aa) g))) ≡ select transposed (down 64 g)
 unfolding bitAt bool down select transposed tab
 transpose-bits g = refl
 
@@ -149,20 +151,28 @@ loaded block x y h p q =
 
 -- ---- IP and its inverse
 
-initial-bits : (g : ℕ → Bool) → down 32 (swap 8 (bitAt 0xff000000ff00) (swap 24 (bitAt 0xff00ff00) g)) ++ down 32 (λ j. swap 8 (bitAt 0xff000000ff00) (swap 24 (bitAt 0xff00ff00) g) (32 + j))
-    ≡ select IP (select mirrored (select transposed (down 64 g)))
+-- the two exchanges of rows
+abbrev far : (ℕ → Bool) → ℕ → Bool
+far = swap 24 (bitAt 0xff00ff00)
+
+abbrev near : (ℕ → Bool) → ℕ → Bool
+near = swap 8 (bitAt 0xff000000ff00)
+
+initial-bits : (g : ℕ → Bool)
+    → down 32 (near (far g)) ++ down 32 (λ j. near (far g) (32 + j)) ≡ select IP (select mirrored (select transposed (down 64 g)))
 unfolding bitAt bool down select transposed mirrored tab IP
 initial-bits g = refl
 
 pub initial-word : (block : List ℕ) (x y z r : ℕ) → length block ≡ 8 → bits 64 x ≡ toBits (reverse block) → bits 64 y ≡ select transposed (bits 64 x)
     → z ≡ deltaSwap y 0xff00ff00 24 → r ≡ deltaSwap z 0xff000000ff00 8 → bits 32 r ++ bits 32 (r / 2 ^ 32) ≡ select IP (toBits block)
 initial-word block x y z r h p q v w =
-    let e : Agree (bitAt r) (swap 8 (bitAt 0xff000000ff00) (swap 24 (bitAt 0xff00ff00) (bitAt y))) = rw (w, v) (swapped _ 0xff000000ff00 8 _ (lit< tt) (swapped y 0xff00ff00 24 (bitAt y) (lit< tt) (λ j l. refl))) in
+    let e : Agree (bitAt r) (near (far (bitAt y))) =
+    rw (w, v) (swapped _ 0xff000000ff00 8 _ (lit< tt) (swapped y 0xff00ff00 24 (bitAt y) (lit< tt) (λ j l. refl))) in
     ap₂ _++_ (bits-down 32 r ∙ down-ext 32 _ _ (λ j l. e j (omega arith))) (bits-shr 32 32 r ∙ down-ext 32 _ _ (λ j l. e (32 + j) (omega arith)))
     ∙ initial-bits (bitAt y)
     ∙ ap (select IP) (sym (loaded block x y h p q))
 
-last-bits : (g : ℕ → Bool) → select mirrored (select transposed (down 64 (swap 24 (bitAt 0xff00ff00) (swap 8 (bitAt 0xff000000ff00) g))))
+last-bits : (g : ℕ → Bool) → select mirrored (select transposed (down 64 (far (near g))))
     ≡ select IP⁻¹ (down 32 g ++ down 32 (λ j. g (32 + j)))
 unfolding bitAt bool down select transposed mirrored tab IP⁻¹
 last-bits g = refl
@@ -172,9 +182,12 @@ pub last-word : (l r l1 r1 x y z w : ℕ) (b : List ℕ) → bits 32 l1 ≡ left
     → b ≡ reverse (toBytes 8 (bits 64 w)) → b ≡ toBytes 8 (select IP⁻¹ (held r ++ held l))
 unfolding held
 last-word l r l1 r1 x y z w b p q h u v e t o =
-    let g : Agree (bitAt z) (swap 24 (bitAt 0xff00ff00) (swap 8 (bitAt 0xff000000ff00) (bitAt x))) = rw (e, v) (swapped _ 0xff00ff00 24 _ (lit< tt) (swapped x 0xff000000ff00 8 (bitAt x) (lit< tt) (λ j k. refl))) in
-    let lo : down 32 (bitAt x) ≡ leftShift 31 (bits 32 r) = sym (bits-down 32 x) ∙ sym (bits-mod 32 32 x (le-refl 32)) ∙ ap (bits 32) (ap (λ (n : ℕ). n % 2 ^ 32) u ∙ low l1 32 h) ∙ q in
-    let hi : down 32 (λ j. bitAt x (32 + j)) ≡ leftShift 31 (bits 32 l) = sym (bits-shr 32 32 x) ∙ ap (bits 32) (ap (λ (n : ℕ). n / 2 ^ 32) u ∙ high l1 32 h) ∙ p in
+    let g : Agree (bitAt z) (far (near (bitAt x))) =
+    rw (e, v) (swapped _ 0xff00ff00 24 _ (lit< tt) (swapped x 0xff000000ff00 8 (bitAt x) (lit< tt) (λ j k. refl))) in
+    let lo : down 32 (bitAt x) ≡ leftShift 31 (bits 32 r) =
+    sym (bits-down 32 x) ∙ sym (bits-mod 32 32 x (le-refl 32)) ∙ ap (bits 32) (ap (λ (n : ℕ). n % 2 ^ 32) u ∙ low l1 32 h) ∙ q in
+    let hi : down 32 (λ j. bitAt x (32 + j)) ≡ leftShift 31 (bits 32 l) =
+    sym (bits-shr 32 32 x) ∙ ap (bits 32) (ap (λ (n : ℕ). n / 2 ^ 32) u ∙ high l1 32 h) ∙ p in
     o
     ∙ ap (λ (i : List Bool). reverse (toBytes 8 i)) (bits-down 64 w)
     ∙ mirror-back (bitAt w)
@@ -201,7 +214,8 @@ load-word b x0 x1 x2 x3 x4 x5 x6 x7 h e0 e1 e2 e3 e4 e5 e6 e7 =
     ∙ load-bits (λ i. getD b i 0)
     ∙ ap (λ (l : List ℕ). toBits (reverse l)) (sym (listed 8 b h))
   where
-    load-bits : (g : ℕ → ℕ) → bits 8 (g 7) ++ (bits 8 (g 6) ++ (bits 8 (g 5) ++ (bits 8 (g 4) ++ (bits 8 (g 3) ++ (bits 8 (g 2) ++ (bits 8 (g 1) ++ (bits 8 (g 0) ++ [])))))))
+    load-bits : (g : ℕ → ℕ)
+        → bits 8 (g 7) ++ (bits 8 (g 6) ++ (bits 8 (g 5) ++ (bits 8 (g 4) ++ (bits 8 (g 3) ++ (bits 8 (g 2) ++ (bits 8 (g 1) ++ (bits 8 (g 0) ++ [])))))))
         ≡ toBits (reverse (tab 8 g))
     load-bits g = unfold toBits tab in refl
 
@@ -219,8 +233,11 @@ store-word x h =
     let top : x / 2 ^ 56 % 256 ≡ x / 2 ^ 56 = omega arith in
     sym
     (ap reverse
-    (byte-off 7 56 x _ (byte-off 6 48 x _ (byte-off 5 40 x _ (byte-off 4 32 x _ (byte-off 3 24 x _ (byte-off 2 16 x _ (byte-off 1 8 x _ (byte-off 0 0 x [] none))))))))
-    ∙ ap₂ (λ (a b : ℕ). a % 256 ∷ x / 2 ^ 8 % 256 ∷ x / 2 ^ 16 % 256 ∷ x / 2 ^ 24 % 256 ∷ x / 2 ^ 32 % 256 ∷ x / 2 ^ 40 % 256 ∷ x / 2 ^ 48 % 256 ∷ b ∷ []) (div-one x) top)
+    (byte-off 7 56 x _
+    (byte-off 6 48 x _ (byte-off 5 40 x _ (byte-off 4 32 x _ (byte-off 3 24 x _ (byte-off 2 16 x _ (byte-off 1 8 x _ (byte-off 0 0 x [] none))))))))
+    ∙ ap₂
+    (λ (a b : ℕ). a % 256 ∷ x / 2 ^ 8 % 256 ∷ x / 2 ^ 16 % 256 ∷ x / 2 ^ 24 % 256 ∷ x / 2 ^ 32 % 256 ∷ x / 2 ^ 40 % 256 ∷ x / 2 ^ 48 % 256 ∷ b ∷ [])
+    (div-one x) top)
   where
     none : toBytes 0 (bits 0 x) ≡ []
     none = unfold toBytes in refl

@@ -250,7 +250,7 @@ pub(crate) fn decrypt_with(u: &[u32], si: &[u8], w: &[u32], block: [u8; 16]) -> 
 pub fn encrypt_aes128_block(data: [u8; 16], key: [u8; 16]) -> [u8; 16]
     ensures { λ r. ⌜ r ≡ aesEncrypt key «data» ⌝ }
 {
-    let te = TE;
+    let te = te_table();
     let w = expand(&te, key);
     encrypt_with(&te, &w, data)
 }
@@ -258,15 +258,36 @@ pub fn encrypt_aes128_block(data: [u8; 16], key: [u8; 16]) -> [u8; 16]
 pub fn decrypt_aes128_block(data: [u8; 16], key: [u8; 16]) -> [u8; 16]
     ensures { λ r. ⌜ r ≡ aesDecrypt key «data» ⌝ }
 {
-    let te = TE;
+    let te = te_table();
     let w = expand(&te, key);
-    let u = U;
-    let si = INV_S;
+    let u = u_table();
+    let si = inv_s_table();
     decrypt_with(&u, &si, &w, data)
 }
 
+// ---- tables
+
+// The tables, for the outermost function of an operation to lend.
+pub(crate) fn te_table() -> [u32; 256]
+    ensures { λ r. ⌜ TeTable r ⌝ }
+{
+    TE
+}
+
+fn u_table() -> [u32; 256]
+    ensures { λ r. ⌜ UTable r ⌝ }
+{
+    U
+}
+
+fn inv_s_table() -> [u8; 256]
+    ensures { λ r. ⌜ InvSTable r ⌝ }
+{
+    INV_S
+}
+
 // Word x is 02 S(x), S(x), S(x), 03 S(x), with S the S-box.
-pub(crate) const TE: [u32; 256] = [
+const TE: [u32; 256] = [
     0xc66363a5,
     0xf87c7c84,
     0xee777799,
@@ -526,7 +547,7 @@ pub(crate) const TE: [u32; 256] = [
 ];
 
 // Word x is 0e x, 09 x, 0d x, 0b x.
-pub(crate) const U: [u32; 256] = [
+const U: [u32; 256] = [
     0x00000000,
     0x0e090d0b,
     0x1c121a16,
@@ -786,7 +807,7 @@ pub(crate) const U: [u32; 256] = [
 ];
 
 // The inverse S-box.
-pub(crate) const INV_S: [u8; 256] = [
+const INV_S: [u8; 256] = [
     0x52,
     0x09,
     0x6a,

@@ -53,8 +53,8 @@ pub fn encrypt_des_cbc_zero_iv(data: &mut [u8], key: [u8; 8]) -> bool
     if data.len() % 8 != 0 {
         return false;
     }
-    let sp = des::SP;
-    let pc2 = des::PC2;
+    let sp = des::sp_table();
+    let pc2 = des::pc2_table();
     let ks = des::schedule(&pc2, key);
     encrypt_blocks(data, &sp, &ks);
     true
@@ -67,8 +67,8 @@ pub fn decrypt_des_cbc_zero_iv(data: &mut [u8], key: [u8; 8]) -> bool
     if data.len() % 8 != 0 {
         return false;
     }
-    let sp = des::SP;
-    let pc2 = des::PC2;
+    let sp = des::sp_table();
+    let pc2 = des::pc2_table();
     let ks = des::schedule(&pc2, key);
     decrypt_blocks(data, &sp, &ks);
     true

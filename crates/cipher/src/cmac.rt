@@ -121,7 +121,7 @@ fn mac_from(te: &[u32], w: &[u32], start: [u8; 16], s: &[u8]) -> [u8; 16]
 pub fn aes128_cmac(data: &[u8], key: [u8; 16]) -> [u8; 16]
     ensures { λ r. ⌜ r ≡ cmac (aesEncrypt key) 16 R128 (now («data» .entry)) ⌝ }
 {
-    let te = aes::TE;
+    let te = aes::te_table();
     let w = aes::expand(&te, key);
     mac_from(&te, &w, [0u8; 16], data)
 }
@@ -142,7 +142,7 @@ fn mac_after_block(te: &[u32], w: &[u32], first: [u8; 16], data: &[u8]) -> [u8; 
 pub fn aes128_cmac_after_block(first: [u8; 16], data: &[u8], key: [u8; 16]) -> [u8; 16]
     ensures { λ r. ⌜ r ≡ cmac (aesEncrypt key) 16 R128 (first ++ now («data» .entry)) ⌝ }
 {
-    let te = aes::TE;
+    let te = aes::te_table();
     let w = aes::expand(&te, key);
     mac_after_block(&te, &w, first, data)
 }

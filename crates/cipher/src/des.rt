@@ -1,21 +1,21 @@
-// DES (FIPS 46-3): the key schedule and one block each way. The tables SP and PC2 are lent, since each function that names a table writes
-// it to its stack anew.
+// DES (FIPS 46-3): the key schedule and one block each way. The tables are lent, since each function that makes one writes it to its stack
+// anew.
 ghost use mathlib.Core.Path.{_≡_};
 ghost use mathlib.Core.List.{_++_, map, reverse};
 ghost use Prim.Native.Nat.{_+_, _*_, _/_, _%_, _^_, _<_};
 ghost use lib.ListN.{length, getD};
 ghost use Rattle.cipher.specs.Bits.{bits, _⊞_, toBits, toBytes};
-ghost use Rattle.cipher.specs.Fips46.{select, leftShift, f, shifts, KS, PC1, PC2, crypt, desEncrypt, desDecrypt};
+ghost use Rattle.cipher.specs.Fips46.{select, leftShift, f, shifts, KS, PC2, crypt, desEncrypt, desDecrypt};
 ghost use Rattle.cipher.specs.Fips46.{tdea2Encrypt, tdea2Decrypt, IP, IP⁻¹};
-ghost use Rattle.cipher.specs.DesTables.{deltaSwap, transposed, among, held, keyBits, SpTable, spBits, Pc2Table, pc2Bits, places};
+ghost use Rattle.cipher.specs.DesTables.{deltaSwap, transposed, held, keyBits, SpTable, spBits, Pc2Table, pc2Bits};
 
 // ---- one block under a key
 
 pub fn encrypt_des_block(data: [u8; 8], key: [u8; 8]) -> [u8; 8]
     ensures { λ r. ⌜ r ≡ desEncrypt key «data» ⌝ }
 {
-    let sp = SP;
-    let pc2 = PC2;
+    let sp = sp_table();
+    let pc2 = pc2_table();
     let ks = schedule(&pc2, key);
     encrypt_with(&sp, &ks, data)
 }
@@ -23,8 +23,8 @@ pub fn encrypt_des_block(data: [u8; 8], key: [u8; 8]) -> [u8; 8]
 pub fn decrypt_des_block(data: [u8; 8], key: [u8; 8]) -> [u8; 8]
     ensures { λ r. ⌜ r ≡ desDecrypt key «data» ⌝ }
 {
-    let sp = SP;
-    let pc2 = PC2;
+    let sp = sp_table();
+    let pc2 = pc2_table();
     let ks = schedule(&pc2, key);
     decrypt_with(&sp, &ks, data)
 }
@@ -34,8 +34,8 @@ pub fn decrypt_des_block(data: [u8; 8], key: [u8; 8]) -> [u8; 8]
 pub fn encrypt_3des_block(data: [u8; 8], key1: [u8; 8], key2: [u8; 8]) -> [u8; 8]
     ensures { λ r. ⌜ r ≡ tdea2Encrypt key1 key2 «data» ⌝ }
 {
-    let sp = SP;
-    let pc2 = PC2;
+    let sp = sp_table();
+    let pc2 = pc2_table();
     let ks1 = schedule(&pc2, key1);
     let ks2 = schedule(&pc2, key2);
     let once = encrypt_with(&sp, &ks1, data);
@@ -46,8 +46,8 @@ pub fn encrypt_3des_block(data: [u8; 8], key1: [u8; 8], key2: [u8; 8]) -> [u8; 8
 pub fn decrypt_3des_block(data: [u8; 8], key1: [u8; 8], key2: [u8; 8]) -> [u8; 8]
     ensures { λ r. ⌜ r ≡ tdea2Decrypt key1 key2 «data» ⌝ }
 {
-    let sp = SP;
-    let pc2 = PC2;
+    let sp = sp_table();
+    let pc2 = pc2_table();
     let ks1 = schedule(&pc2, key1);
     let ks2 = schedule(&pc2, key2);
     let once = decrypt_with(&sp, &ks1, data);
@@ -57,6 +57,7 @@ pub fn decrypt_3des_block(data: [u8; 8], key1: [u8; 8], key2: [u8; 8]) -> [u8; 8
 
 // ---- the sixteen rounds
 
+// A block under the packed round keys ks, and back. The halves l and r are held turned left by one place, as SP has its entries.
 pub(crate) fn encrypt_with(sp: &[u32], ks: &[u64], block: [u8; 8]) -> [u8; 8]
     requires { ⌜ SpTable (now sp) ⌝ }
     requires { ⌜ length (now ks) ≡ 16 ⌝ }
@@ -132,7 +133,7 @@ fn initial(block: [u8; 8]) -> u64
     delta_swap(y, 0xff00_0000_ff00, 8)
 }
 
-// The block that IP takes to r and l.
+// The block that IP takes to the halves r and l.
 fn last(l: u32, r: u32) -> [u8; 8]
     ensures { λ b. ⌜ b ≡ toBytes 8 (select IP⁻¹ (held r ++ held l)) ⌝ }
 {
@@ -142,6 +143,7 @@ fn last(l: u32, r: u32) -> [u8; 8]
     store(transpose(z))
 }
 
+// The halves of x, each as it is held in the rounds.
 fn left(x: u64) -> u32
     ensures { λ r. ⌜ held r ≡ bits 32 x ⌝ }
 {
@@ -175,8 +177,8 @@ pub(crate) fn schedule(pc2: &[u32], key: [u8; 8]) -> [u64; 16]
     ks
 }
 
-// C0 and D0 of the transpose of a key whose last byte is its first row: the first 28 bits, and the last three rows from the last up, then
-// half of the fourth.
+// C0 and D0 of the transpose of a key, in which row 1 is the first bits of its bytes, last byte first: C0 is the first 28 bits, D0 the rows
+// 7, 6, 5 and the second half of row 4.
 fn c0(x: u64) -> u32
     ensures { λ r. ⌜ r ≡ x / 2 ^ 36 ⌝ }
 {
@@ -288,6 +290,8 @@ fn store(x: u64) -> [u8; 8]
     ]
 }
 
+// ---- parts of words, and turns of 32 bits
+
 fn wide(x: u8) -> u64
     ensures { λ r. ⌜ (r ≡ x) × (r < 256) ⌝ }
 {
@@ -332,8 +336,21 @@ fn turn_right_4(x: u32) -> u32
 
 // ---- tables
 
+// The tables, for the outermost function of an operation to lend.
+pub(crate) fn sp_table() -> [u32; 512]
+    ensures { λ r. ⌜ SpTable r ⌝ }
+{
+    SP
+}
+
+pub(crate) fn pc2_table() -> [u32; 1024]
+    ensures { λ r. ⌜ Pc2Table r ⌝ }
+{
+    PC2
+}
+
 // S and P together, turned left by one: 64 entries for each of S1 to S8.
-pub(crate) const SP: [u32; 512] = [
+const SP: [u32; 512] = [
     0x1010400,
     0x0,
     0x10000,
@@ -849,7 +866,7 @@ pub(crate) const SP: [u32; 512] = [
 ];
 
 // PC-2 of seven bits at a time: 128 entries for each seven bits of C and D.
-pub(crate) const PC2: [u32; 1024] = [
+const PC2: [u32; 1024] = [
     0x0,
     0x100000,
     0x4000000,

@@ -87,8 +87,8 @@ fn encrypt_aes128_each(te: &[u32], block: [u8; 16], keys: &[u8]) -> [u8; 16]
 pub fn encrypt_des_under_each(block: [u8; 8], keys: &[u8]) -> [u8; 8]
     ensures { λ r. ⌜ r ≡ underEach desEncrypt 8 (now (keys .entry)) block ⌝ }
 {
-    let sp = des::SP;
-    let pc2 = des::PC2;
+    let sp = des::sp_table();
+    let pc2 = des::pc2_table();
     encrypt_des_each(&sp, &pc2, block, keys)
 }
 
@@ -96,8 +96,8 @@ pub fn encrypt_des_under_each(block: [u8; 8], keys: &[u8]) -> [u8; 8]
 pub fn decrypt_des_under_each(block: [u8; 8], keys: &[u8]) -> [u8; 8]
     ensures { λ r. ⌜ r ≡ underEachBack desDecrypt 8 (now (keys .entry)) block ⌝ }
 {
-    let sp = des::SP;
-    let pc2 = des::PC2;
+    let sp = des::sp_table();
+    let pc2 = des::pc2_table();
     decrypt_des_each(&sp, &pc2, block, keys)
 }
 
@@ -105,6 +105,6 @@ pub fn decrypt_des_under_each(block: [u8; 8], keys: &[u8]) -> [u8; 8]
 pub fn encrypt_aes128_under_each(block: [u8; 16], keys: &[u8]) -> [u8; 16]
     ensures { λ r. ⌜ r ≡ underEach aesEncrypt 16 (now (keys .entry)) block ⌝ }
 {
-    let te = aes::TE;
+    let te = aes::te_table();
     encrypt_aes128_each(&te, block, keys)
 }

@@ -37,7 +37,7 @@ fn apply(data: &mut [u8], te: &[u32], w: &[u32], iv: [u8; 16])
 pub fn apply_aes128_ofb(data: &mut [u8], key: [u8; 16], iv: [u8; 16])
     ensures { λ _. ⌜ now («data» .exit) ≡ ofb (aesEncrypt key) 16 iv (now («data» .entry)) ⌝ }
 {
-    let te = aes::TE;
+    let te = aes::te_table();
     let w = aes::expand(&te, key);
     apply(data, &te, &w, iv);
 }

@@ -2,8 +2,8 @@
 use native.Mathlib.Omega.{arith}
 use borrow.Author.Needs.{needs}
 use Rattle.cipher.proofs.DesKeys.{right-word}
-use Rattle.cipher.proofs.des.d0.Tie as tie
 use Rattle.cipher.proofs.des.d0.Statement.{statement}
+use Rattle.cipher.proofs.des.d0.Tie as tie
 
 mul-result : tie.Need-mul-result
 mul-result c = search needs

@@ -2,8 +2,8 @@
 use mathlib.Core.Path.{refl}
 use borrow.Author.Needs.{needs}
 use Rattle.cipher.specs.DesTables.{deltaSwap}
-use Rattle.cipher.proofs.des.delta_swap.Tie as tie
 use Rattle.cipher.proofs.des.delta_swap.Statement.{statement}
+use Rattle.cipher.proofs.des.delta_swap.Tie as tie
 
 shr-t : tie.Need-shr-t
 shr-t c = search needs

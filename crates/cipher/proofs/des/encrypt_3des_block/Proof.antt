@@ -1,24 +1,26 @@
 -- `des::encrypt_3des_block` meets its contract: the three blocks, from what the calls ensure. Assumes nothing.
 use borrow.Author.Needs.{needs}
-use Rattle.cipher.proofs.DesPc2.{pc2, pc2-table}
 use Rattle.cipher.proofs.DesRounds.{encrypted, decrypted, tdea2-encrypted}
-use Rattle.cipher.proofs.DesSp.{sp, sp-table}
 use Rattle.cipher.proofs.des.encrypt_3des_block.Statement.{statement}
 use Rattle.cipher.proofs.des.encrypt_3des_block.Tie as tie
+
+sp-table-requires : tie.Need-sp-table-requires
+sp-table-requires c κs = search needs
+
+pc2-table-requires : tie.Need-pc2-table-requires
+pc2-table-requires c κs = search needs
 
 slice-aggregate-schedule : tie.Need-slice-aggregate-schedule
 slice-aggregate-schedule c = search needs
 
 schedule-requires : tie.Need-schedule-requires
-unfolding pc2
-schedule-requires c κs = pc2-table
+schedule-requires c κs = search needs
 
 slice-aggregate-schedule-2 : tie.Need-slice-aggregate-schedule-2
 slice-aggregate-schedule-2 c = search needs
 
 schedule-requires-2 : tie.Need-schedule-requires-2
-unfolding pc2
-schedule-requires-2 c κs = pc2-table
+schedule-requires-2 c κs = search needs
 
 slice-aggregate-encrypt-with : tie.Need-slice-aggregate-encrypt-with
 slice-aggregate-encrypt-with c = search needs
@@ -27,8 +29,7 @@ slice-aggregate-encrypt-with-2 : tie.Need-slice-aggregate-encrypt-with-2
 slice-aggregate-encrypt-with-2 c = search needs
 
 encrypt-with-requires : tie.Need-encrypt-with-requires
-unfolding sp
-encrypt-with-requires c κs = (sp-table, search needs)
+encrypt-with-requires c κs = search needs
 
 slice-aggregate-decrypt-with : tie.Need-slice-aggregate-decrypt-with
 slice-aggregate-decrypt-with c = search needs
@@ -37,8 +38,7 @@ slice-aggregate-decrypt-with-2 : tie.Need-slice-aggregate-decrypt-with-2
 slice-aggregate-decrypt-with-2 c = search needs
 
 decrypt-with-requires : tie.Need-decrypt-with-requires
-unfolding sp
-decrypt-with-requires c κs = (sp-table, search needs)
+decrypt-with-requires c κs = search needs
 
 slice-aggregate-encrypt-with-3 : tie.Need-slice-aggregate-encrypt-with-3
 slice-aggregate-encrypt-with-3 c = search needs
@@ -47,8 +47,7 @@ slice-aggregate-encrypt-with-4 : tie.Need-slice-aggregate-encrypt-with-4
 slice-aggregate-encrypt-with-4 c = search needs
 
 encrypt-with-requires-2 : tie.Need-encrypt-with-requires-2
-unfolding sp
-encrypt-with-requires-2 c κs = (sp-table, search needs)
+encrypt-with-requires-2 c κs = search needs
 
 returns : tie.Need-returns
 returns c =
@@ -63,6 +62,8 @@ pub encrypt-3des-block-spec : {M : Type 1} → statement M
 encrypt-3des-block-spec =
     tie.close
     (tie.spec
+    sp-table-requires
+    pc2-table-requires
     slice-aggregate-schedule
     schedule-requires
     slice-aggregate-schedule-2

@@ -1,17 +1,20 @@
--- `des::encrypt_des_block` meets its contract: the tables that it lends follow their rules, and the calls do the rest. Assumes nothing.
+-- `des::encrypt_des_block` meets its contract: from what the calls ensure. Assumes nothing.
 use borrow.Author.Needs.{needs}
-use Rattle.cipher.proofs.DesPc2.{pc2, pc2-table}
 use Rattle.cipher.proofs.DesRounds.{encrypted}
-use Rattle.cipher.proofs.DesSp.{sp, sp-table}
 use Rattle.cipher.proofs.des.encrypt_des_block.Tie as tie
 use Rattle.cipher.proofs.des.encrypt_des_block.Statement.{statement}
+
+sp-table-requires : tie.Need-sp-table-requires
+sp-table-requires c κs = search needs
+
+pc2-table-requires : tie.Need-pc2-table-requires
+pc2-table-requires c κs = search needs
 
 slice-aggregate-schedule : tie.Need-slice-aggregate-schedule
 slice-aggregate-schedule c = search needs
 
 schedule-requires : tie.Need-schedule-requires
-unfolding pc2
-schedule-requires c κs = pc2-table
+schedule-requires c κs = search needs
 
 slice-aggregate-encrypt-with : tie.Need-slice-aggregate-encrypt-with
 slice-aggregate-encrypt-with c = search needs
@@ -20,8 +23,7 @@ slice-aggregate-encrypt-with-2 : tie.Need-slice-aggregate-encrypt-with-2
 slice-aggregate-encrypt-with-2 c = search needs
 
 encrypt-with-requires : tie.Need-encrypt-with-requires
-unfolding sp
-encrypt-with-requires c κs = (sp-table, search needs)
+encrypt-with-requires c κs = search needs
 
 returns : tie.Need-returns
 returns c =
@@ -32,6 +34,8 @@ pub encrypt-des-block-spec : {M : Type 1} → statement M
 encrypt-des-block-spec =
     tie.close
     (tie.spec
+    sp-table-requires
+    pc2-table-requires
     slice-aggregate-schedule
     schedule-requires
     slice-aggregate-encrypt-with

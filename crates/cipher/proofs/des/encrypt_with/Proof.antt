@@ -8,8 +8,8 @@ use lib.ListN.{length, length-map}
 use Rattle.cipher.specs.Bits.{toBits}
 use Rattle.cipher.specs.DesTables.{keyBits}
 use Rattle.cipher.proofs.DesRounds.{Rounds, rounds-turn, rounds-done, crypt-word, key-at}
-use Rattle.cipher.proofs.des.encrypt_with.Statement.{statement}
 use Rattle.cipher.proofs.des.encrypt_with.Tie as tie
+use Rattle.cipher.proofs.des.encrypt_with.Statement.{statement}
 
 abbrev Inv-loop : tie.InvT-loop
 Inv-loop sp ks x l₀ r₀ i₀ l r i = (i ≤ 16) × Rounds (map keyBits ks) l₀ r₀ l r i

@@ -3,8 +3,8 @@ use mathlib.Core.Path.{ap₂, _∙_}
 use borrow.Author.Needs.{needs}
 use Rattle.cipher.specs.Bits.{_⊞_}
 use Rattle.cipher.proofs.BitWords.{bits-xor}
-use Rattle.cipher.proofs.des.half_key.Statement.{statement}
 use Rattle.cipher.proofs.des.half_key.Tie as tie
+use Rattle.cipher.proofs.des.half_key.Statement.{statement}
 
 pick7-requires : tie.Need-pick7-requires
 pick7-requires c κs = search needs

@@ -3,8 +3,8 @@ use mathlib.Core.Path.{_≡_}
 use borrow.Author.Needs.{needs}
 use lib.ListN.{length}
 use Rattle.cipher.proofs.DesWords.{initial-word}
-use Rattle.cipher.proofs.des.initial.Tie as tie
 use Rattle.cipher.proofs.des.initial.Statement.{statement}
+use Rattle.cipher.proofs.des.initial.Tie as tie
 
 load-requires : tie.Need-load-requires
 load-requires c κs = search needs

@@ -3,8 +3,8 @@ use Prim.Native.Nat.{_<_, _^_}
 use native.Mathlib.Omega.{arith}
 use borrow.Author.Needs.{needs}
 use Rattle.cipher.proofs.DesWords.{last-word}
-use Rattle.cipher.proofs.des.last.Statement.{statement}
 use Rattle.cipher.proofs.des.last.Tie as tie
+use Rattle.cipher.proofs.des.last.Statement.{statement}
 
 turn-right-1-requires : tie.Need-turn-right-1-requires
 turn-right-1-requires c κs = search needs

@@ -5,8 +5,8 @@ use borrow.Author.Needs.{needs}
 use Rattle.cipher.specs.Bits.{bits}
 use Rattle.cipher.proofs.BitWords.{bits-mod}
 use Rattle.cipher.proofs.DesRounds.{held-turned}
-use Rattle.cipher.proofs.des.left.Tie as tie
 use Rattle.cipher.proofs.des.left.Statement.{statement}
+use Rattle.cipher.proofs.des.left.Tie as tie
 
 low-requires : tie.Need-low-requires
 low-requires c κs = search needs

@@ -3,8 +3,8 @@ use mathlib.Core.Path.{_≡_}
 use borrow.Author.Needs.{needs}
 use lib.ListN.{length}
 use Rattle.cipher.proofs.DesWords.{load-word}
-use Rattle.cipher.proofs.des.load.Tie as tie
 use Rattle.cipher.proofs.des.load.Statement.{statement}
+use Rattle.cipher.proofs.des.load.Tie as tie
 
 array-read-wide : tie.Need-array-read-wide
 array-read-wide c = search needs

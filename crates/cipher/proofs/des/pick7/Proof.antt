@@ -1,8 +1,8 @@
 -- `des::pick7` meets its contract: the rule of the table at its index. Assumes nothing.
 use borrow.Author.Needs.{needs}
 use Rattle.cipher.proofs.DesKeys.{pc2-pick}
-use Rattle.cipher.proofs.des.pick7.Tie as tie
 use Rattle.cipher.proofs.des.pick7.Statement.{statement}
+use Rattle.cipher.proofs.des.pick7.Tie as tie
 
 mul-result : tie.Need-mul-result
 mul-result c = search needs

@@ -1,8 +1,8 @@
 -- `des::transpose` meets its contract: three exchanges. Assumes nothing.
 use borrow.Author.Needs.{needs}
 use Rattle.cipher.proofs.DesWords.{transpose-word}
-use Rattle.cipher.proofs.des.transpose.Tie as tie
 use Rattle.cipher.proofs.des.transpose.Statement.{statement}
+use Rattle.cipher.proofs.des.transpose.Tie as tie
 
 delta-swap-requires : tie.Need-delta-swap-requires
 delta-swap-requires c κs = search needs
