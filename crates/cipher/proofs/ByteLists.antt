@@ -1,10 +1,10 @@
 -- Strings of bytes, and their parts: each entry stays below 256. Assumes nothing.
-use mathlib.Core.Path.{_≡_, refl, sym, ap}
+use mathlib.Core.Path.{_≡_, refl}
 use mathlib.Core.List.{List, [], _∷_, _++_, map}
 use Prim.Native.Nat.{ℕ, zero, suc, _+_, _<_}
 use native.Mathlib.Omega.{arith}
 use lib.Dec.{lit<}
-use lib.ListN.{length, take, drop, getD, replicate}
+use lib.ListN.{length, take, drop, replicate}
 use lib.Seq.{getD-drop}
 use Rattle.cipher.specs.Bytes.{Bytes, tab}
 

@@ -1,13 +1,13 @@
 -- The laws of `chain` (specs/Sp80038a), for any width w above 0. Assumes nothing.
 use mathlib.Core.Path.{_≡_, refl, sym, ap, _∙_}
-use mathlib.Core.List.{List, [], _∷_, _++_, append-assoc, append-nil}
+use mathlib.Core.List.{List, _++_, append-assoc, append-nil}
 use mathlib.Core.Logic.{⊎-elim}
-use Prim.Native.Nat.{ℕ, zero, suc, _+_, _-_, _/_, _≤_, _<_, min}
+use Prim.Native.Nat.{ℕ, suc, _+_, _-_, _/_, _≤_, _<_}
 use native.Mathlib.Nat.{sub-zero, div-eq-sub-div, div-eq-of-lt}
 use native.Mathlib.Numerals.{add-one}
 use native.Mathlib.Omega.{arith}
-use lib.ListN.{length, take, drop, length-append, length-take, length-drop, take-append-drop, drop-of-length-le}
-use lib.Seq.{take-at, drop-at, drop-drop, length-take-le, take-all, drop-length, take-length}
+use lib.ListN.{length, take, drop}
+use lib.Seq.{drop-drop, take-all}
 use Rattle.cipher.specs.Sp80038a.{chain, blocks}
 use Rattle.cipher.proofs.Numbers.{le-or-lt}
 use Rattle.cipher.proofs.Copies.{length-put, take-put, drop-put}

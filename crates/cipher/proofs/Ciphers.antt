@@ -1,15 +1,15 @@
 -- What the layers above take: the laws of the ciphers, modes and folds of this crate, with nothing about a cipher left to assume. Assumes nothing.
 use mathlib.Core.Path.{_≡_}
-use mathlib.Core.List.{List, _++_}
+use mathlib.Core.List.{List}
 use Prim.Native.Nat.{ℕ, _*_}
 use lib.Dec.{lit<}
 use lib.ListN.{length, length-replicate, replicate}
 use Rattle.cipher.specs.Bytes.{Bytes}
 use Rattle.cipher.specs.Fips197.{aesEncrypt, aesDecrypt}
 use Rattle.cipher.specs.Fips46.{desEncrypt, desDecrypt}
-use Rattle.cipher.specs.Fold.{underFrom, underEach, backFrom, underEachBack}
+use Rattle.cipher.specs.Fold.{underEach, underEachBack}
 use Rattle.cipher.specs.Sp80038a.{cbcEncrypt, cbcDecrypt, ofb}
-use Rattle.cipher.specs.Sp80038b.{cmac, macFrom, R128}
+use Rattle.cipher.specs.Sp80038b.{cmac, R128}
 use Rattle.cipher.proofs.ByteLists.{Block, Bytes-replicate}
 use Rattle.cipher.proofs.AesInverse.{aes-decrypt-encrypt, aes-encrypt-decrypt}
 use Rattle.cipher.proofs.AesLengths.{aesEncrypt-long, aesEncrypt-bytes, aesDecrypt-long, aesDecrypt-bytes}

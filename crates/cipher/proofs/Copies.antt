@@ -1,13 +1,13 @@
 -- Copies into and out of a part of a list. Assumes nothing.
-use mathlib.Core.Path.{_≡_, refl, sym, ap, _∙_}
-use mathlib.Core.List.{List, [], _∷_, _++_, append-assoc, append-nil}
+use mathlib.Core.Path.{_≡_, sym, _∙_}
+use mathlib.Core.List.{List, _++_, append-assoc, append-nil}
 use mathlib.Core.Logic.{⊎-elim}
-use Prim.Native.Nat.{ℕ, zero, suc, _+_, _-_, _≤_, _<_, min}
+use Prim.Native.Nat.{ℕ, _+_, _-_, _≤_, _<_, min}
 use native.Mathlib.Omega.{arith}
 use lib.ListN.{length, take, drop, set, getD, length-append, length-take, length-drop, drop-of-length-le}
 use lib.Seq.{take-at, drop-at, take-all, drop-length, drop-drop, length-take-le, getD-take}
 use Rattle.cipher.proofs.Numbers.{le-or-lt}
-use Rattle.cipher.proofs.Filling.{Filled, fill-step, fill-done}
+use Rattle.cipher.proofs.Filling.{Filled, fill-step}
 
 -- a turn of a copy of src over the front of d₀, as far as both reach
 pub copy-turn : (src d₀ : List ℕ) {d : List ℕ} {i : ℕ} → Filled (take (length d₀) src) d₀ d i → i < length (take (length d₀) src)

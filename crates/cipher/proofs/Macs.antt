@@ -5,9 +5,8 @@ use mathlib.Core.Logic.{⊎-elim}
 use Prim.Native.Nat.{ℕ, zero, suc, _+_, _-_, _*_, _/_, _%_, _≤_, _<_}
 use native.Mathlib.Nat.{sub-zero, eq-zero-or-pos}
 use native.Mathlib.Omega.{arith}
-use native.Mathlib.Numerals.{add-one, sub-one}
 use lib.ListN.{length, take, drop, set, getD, replicate, length-append, length-drop, length-replicate}
-use lib.Seq.{take-all, drop-drop, take-at, drop-at, set-at, drop-cons}
+use lib.Seq.{take-all, drop-drop, take-at, drop-at, set-at}
 use Rattle.cipher.specs.Bytes.{_⊕_}
 use Rattle.cipher.specs.Sp80038a.{blocks}
 use Rattle.cipher.specs.Sp80038b.{shiftLeft, double, K1, K2, lastBlock, macFrom, cmac}

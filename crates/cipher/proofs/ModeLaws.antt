@@ -1,12 +1,12 @@
 -- CBC decryption undoes CBC encryption and the other way round, OFB undoes itself, and all keep lengths and bytes: for any width above 0,
 -- from the laws of one block. Assumes nothing.
 use mathlib.Core.Path.{_≡_, refl, sym, ap, ap₂, _∙_}
-use mathlib.Core.List.{List, [], _∷_, _++_, append-nil}
+use mathlib.Core.List.{List, [], _++_, append-nil}
 use mathlib.Core.Logic.{⊎-elim}
-use Prim.Native.Nat.{ℕ, zero, suc, _+_, _-_, _*_, _/_, _%_, _≤_, _<_}
-use native.Mathlib.Nat.{le-of-eq, suc-mul, add-comm, add-zero, div-add-mod', add-mul-div-right, div-eq-of-lt, zero-add, zero-mul, mod-lt}
+use Prim.Native.Nat.{ℕ, zero, suc, _+_, _-_, _*_, _/_, _≤_, _<_}
+use native.Mathlib.Nat.{le-of-eq, suc-mul, add-comm, div-add-mod', add-mul-div-right, div-eq-of-lt, zero-add, zero-mul, mod-lt}
 use native.Mathlib.Omega.{arith}
-use lib.ListN.{length, take, drop, length-append, length-take, length-drop, take-append-drop, drop-of-length-le}
+use lib.ListN.{length, take, drop, length-append, length-drop, take-append-drop, drop-of-length-le}
 use lib.Seq.{take-at, drop-at, length-take-le, take-all, take-nil, drop-nil}
 use Rattle.cipher.specs.Bytes.{Bytes, _⊕_}
 use Rattle.cipher.specs.Sp80038a.{chain, blocks, cbcOut, cbcBack, itself, cbcEncrypt, cbcDecrypt, ofbOut, ofbNext, ofb}

@@ -1,12 +1,12 @@
 -- A turn of each mode's loop, from what the calls in it ensure, over any block cipher and width. Assumes nothing.
-use mathlib.Core.Path.{_≡_, refl, sym, ap, _∙_}
-use mathlib.Core.List.{List, [], _∷_, _++_}
+use mathlib.Core.Path.{_≡_, sym, ap, _∙_}
+use mathlib.Core.List.{List, _++_}
 use mathlib.Core.Bool.{true, false}
 use Prim.Native.Nat.{ℕ, _+_, _%_, _≤_, _<_}
 use native.Mathlib.Omega.{arith}
 use borrow.Author.Tests.{eq-eqb, ne-eqb}
 use lib.Dec.{eqb}
-use lib.ListN.{length, take, drop, length-take, length-drop}
+use lib.ListN.{length, take, drop, length-take}
 use Rattle.cipher.specs.Bytes.{_⊕_}
 use Rattle.cipher.specs.Sp80038a.{cbcOut, cbcBack, itself, ofbOut, ofbNext, whole, ifWhole, onWhole}
 use Rattle.cipher.proofs.Xor.{length-⊕}

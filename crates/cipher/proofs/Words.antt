@@ -6,10 +6,10 @@ use native.Mathlib.Nat.{mod-lt}
 use native.Mathlib.Omega.{arith}
 use lib.Dec.{lit<}
 use lib.ListN.{length, take, drop, getD}
-use lib.Seq.{drop-cons, getD-drop}
+use lib.Seq.{drop-cons}
 use lib.Pow.{shr-shr}
 use lib.Bits.{bitXor, xor-shr, xor-mod}
-use Rattle.cipher.specs.Bytes.{Bytes, tab, _⊕_, wordBytes, wordsBytes}
+use Rattle.cipher.specs.Bytes.{Bytes, _⊕_, wordBytes, wordsBytes}
 use Rattle.cipher.specs.Fips197.{rotWord}
 use Rattle.cipher.specs.AesTables.{rotRight}
 

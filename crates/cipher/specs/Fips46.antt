@@ -1,7 +1,7 @@
 -- FIPS 46-3, Data Encryption Standard, and triple DES. The tables stand as the paper prints them, and bits have its numbers: bit 1 is the
 -- first of a block, the highest of its first byte. Assumes nothing.
-use Prim.Native.Nat.{ℕ, zero, suc, _+_, _-_, _*_}
-use mathlib.Core.Bool.{Bool, true, false}
+use Prim.Native.Nat.{ℕ, _+_, _-_, _*_}
+use mathlib.Core.Bool.{Bool, false}
 use mathlib.Core.List.{List, [], _∷_, _++_, reverse}
 use lib.ListN.{take, drop, getD}
 use Rattle.cipher.specs.Bits.{bits, num, _⊞_, toBits, toBytes}

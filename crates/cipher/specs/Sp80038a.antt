@@ -1,7 +1,7 @@
 -- NIST SP 800-38A: the CBC and OFB modes over any block cipher, with blocks of w bytes. Section numbers are the paper's. Assumes nothing.
 use Prim.Native.Nat.{ℕ, zero, suc, _+_, _-_, _/_, _%_}
 use mathlib.Core.Bool.{Bool, true, false}
-use mathlib.Core.List.{List, [], _∷_, _++_}
+use mathlib.Core.List.{List, [], _++_}
 use lib.Dec.{eqb}
 use lib.ListN.{length, take, drop}
 use Rattle.cipher.specs.Bytes.{_⊕_}

@@ -3,7 +3,6 @@ use crate::aes;
 use crate::bytes;
 use crate::des;
 ghost use mathlib.Core.Path.{_≡_};
-ghost use lib.ListN.{length};
 ghost use Rattle.cipher.specs.AesTables.{TeTable};
 ghost use Rattle.cipher.specs.DesTables.{SpTable, Pc2Table};
 ghost use Rattle.cipher.specs.Fips197.{aesEncrypt};

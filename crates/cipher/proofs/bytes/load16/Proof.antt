@@ -4,35 +4,25 @@ use Rattle.cipher.proofs.Copies.{loaded}
 use borrow.Author.Needs.{needs}
 use Rattle.cipher.proofs.bytes.load16.Statement.{statement}
 use Rattle.cipher.proofs.bytes.load16.Tie as tie
-use Rattle.cipher.proofs.bytes.load16.Reads as reads
-use Rattle.cipher.proofs.bytes.load16.Lts as lts
-use Rattle.cipher.proofs.bytes.copy.Reads as copy-reads
 
--- src/bytes.rt:91:15
 add-end : tie.Need-add-end
 add-end c = search needs
 
--- src/bytes.rt:92:10
 sub-copy : tie.Need-sub-copy
 sub-copy c = search needs
 
--- src/bytes.rt:92:10
 part-copy-start : tie.Need-part-copy-start
 part-copy-start c = search needs
 
--- src/bytes.rt:92:10
 part-copy-end : tie.Need-part-copy-end
 part-copy-end c = search needs
 
--- src/bytes.rt:92:23
 slice-aggregate-copy : tie.Need-slice-aggregate-copy
 slice-aggregate-copy c = search needs
 
--- src/bytes.rt:92:5
 copy-requires : tie.Need-copy-requires
 copy-requires c κs = search needs
 
--- src/bytes.rt:86:1
 returns : tie.Need-returns
 returns c =
     let st = c .before .before .before .before .before in

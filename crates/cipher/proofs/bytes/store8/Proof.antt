@@ -3,39 +3,28 @@ use Rattle.cipher.proofs.Copies.{stored}
 use borrow.Author.Needs.{needs}
 use Rattle.cipher.proofs.bytes.store8.Statement.{statement}
 use Rattle.cipher.proofs.bytes.store8.Tie as tie
-use Rattle.cipher.proofs.bytes.store8.Reads as reads
-use Rattle.cipher.proofs.bytes.store8.Lts as lts
-use Rattle.cipher.proofs.bytes.copy.Reads as copy-reads
 
--- src/bytes.rt:101:15
 add-end : tie.Need-add-end
 add-end c = search needs
 
--- src/bytes.rt:102:10
 slice-aggregate-copy : tie.Need-slice-aggregate-copy
 slice-aggregate-copy c = search needs
 
--- src/bytes.rt:102:14
 sub-copy : tie.Need-sub-copy
 sub-copy c = search needs
 
--- src/bytes.rt:102:14
 part-copy-start : tie.Need-part-copy-start
 part-copy-start c = search needs
 
--- src/bytes.rt:102:14
 part-copy-end : tie.Need-part-copy-end
 part-copy-end c = search needs
 
--- src/bytes.rt:102:5
 copy-requires : tie.Need-copy-requires
 copy-requires c κs = search needs
 
--- src/bytes.rt:97:1
 same-length : tie.Need-same-length
 same-length c = search needs
 
--- src/bytes.rt:97:1
 returns : tie.Need-returns
 returns c =
     let st = c .before .before .before .before .before .before in

@@ -1,10 +1,9 @@
-use mathlib.Core.Path.{_≡_, refl, sym, ap, _∙_}
-use mathlib.Core.List.{List, _++_}
-use Prim.Native.Nat.{ℕ, _-_, _≤_, min}
+use mathlib.Core.Path.{_≡_, sym, _∙_}
+use Prim.Native.Nat.{_-_, _≤_}
 use borrow.Author.Needs.{needs}
 use native.Mathlib.Omega.{arith}
 use native.Mathlib.Nat.{min-le-left, min-le-right}
-use lib.ListN.{length, drop}
+use lib.ListN.{length}
 use Rattle.cipher.specs.Bytes.{_⊕_}
 use Rattle.cipher.proofs.Xor.{length-⊕-min}
 use Rattle.cipher.proofs.Filling.{Filled, fill-start, fill-length, fill-done}

@@ -1,10 +1,9 @@
-use mathlib.Core.Path.{_≡_, refl, sym, ap, _∙_}
-use mathlib.Core.List.{List}
-use Prim.Native.Nat.{ℕ, _+_, _-_, _%_, _≤_}
+use mathlib.Core.Path.{_≡_, refl}
+use Prim.Native.Nat.{_-_, _%_}
 use native.Mathlib.Omega.{arith}
 use borrow.Author.Needs.{needs}
 use lib.Dec.{lit<}
-use lib.ListN.{length, replicate, length-set}
+use lib.ListN.{length, replicate}
 use Rattle.cipher.specs.DesWith.{desWith}
 use Rattle.cipher.specs.Sp80038a.{cbcEncrypt, cbcOut}
 use Rattle.cipher.proofs.Chains.{Run, run-start, run-done}

@@ -1,5 +1,5 @@
 use mathlib.Core.Path.{_∙_, ap}
-use mathlib.Core.List.{List, _++_}
+use mathlib.Core.List.{List}
 use Prim.Native.Nat.{ℕ}
 use Rattle.cipher.specs.Fips197.{cipher, aesEncrypt}
 use Rattle.cipher.specs.Sp80038b.{cmac, R128}

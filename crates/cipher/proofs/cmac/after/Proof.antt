@@ -5,24 +5,18 @@ use lib.ListN.{length, List·getD-eq-default}
 use borrow.Author.Needs.{needs}
 use Rattle.cipher.proofs.cmac.after.Statement.{statement}
 use Rattle.cipher.proofs.cmac.after.Tie as tie
-use Rattle.cipher.proofs.cmac.after.Reads as reads
-use Rattle.cipher.proofs.cmac.after.Lts as lts
 
--- src/cmac.rt:27:9
 returns : tie.Need-returns
 returns c =
     let h : length (c .before .args .t1) ≤ c .before .args .i + 1 = omega arith in
     sym (List·getD-eq-default (c .before .args .t1) 0 h)
 
--- src/cmac.rt:29:13
 add-j : tie.Need-add-j
 add-j c = search needs
 
--- src/cmac.rt:30:5
 array-read-result : tie.Need-array-read-result
 array-read-result c = search needs
 
--- src/cmac.rt:22:1
 returns-2 : tie.Need-returns-2
 returns-2 c = search needs
 

@@ -1,5 +1,5 @@
 use mathlib.Core.Path.{_∙_, ap, ap₂}
-use mathlib.Core.List.{List, [], _∷_, _++_}
+use mathlib.Core.List.{[], _∷_, _++_}
 use Prim.Native.Nat.{ℕ}
 use lib.ListN.{replicate}
 use Rattle.cipher.specs.Bytes.{_⊕_}
@@ -7,34 +7,22 @@ use Rattle.cipher.specs.Sp80038b.{double}
 use borrow.Author.Needs.{needs}
 use Rattle.cipher.proofs.cmac.double.Statement.{statement}
 use Rattle.cipher.proofs.cmac.double.Tie as tie
-use Rattle.cipher.proofs.cmac.double.Reads as reads
-use Rattle.cipher.proofs.cmac.double.Lts as lts
-use Rattle.cipher.proofs.bytes.xor_blocks16.Reads as xor-blocks16-reads
-use Rattle.cipher.proofs.cmac.carry.Reads as carry-reads
-use Rattle.cipher.proofs.cmac.last_byte.Reads as last-byte-reads
-use Rattle.cipher.proofs.cmac.shift_left.Reads as shift-left-reads
 
--- src/cmac.rt:64:21
 array-read-carry : tie.Need-array-read-carry
 array-read-carry c = search needs
 
--- src/cmac.rt:64:9
 carry-requires : tie.Need-carry-requires
 carry-requires c κs = search needs
 
--- src/cmac.rt:65:25
 shift-left-requires : tie.Need-shift-left-requires
 shift-left-requires c κs = search needs
 
--- src/cmac.rt:65:40
 last-byte-requires : tie.Need-last-byte-requires
 last-byte-requires c κs = search needs
 
--- src/cmac.rt:65:5
 xor-blocks16-requires : tie.Need-xor-blocks16-requires
 xor-blocks16-requires c κs = search needs
 
--- src/cmac.rt:61:1
 returns : tie.Need-returns
 unfolding double
 returns c = c .xor-blocks16 .ensures ∙ ap₂ _⊕_ (c .before .before .shift-left .ensures) (c .before .last-byte .ensures ∙ ap (λ (b : ℕ). replicate 15 0 ++ (b ∷ [])) (c .before .before .before .carry .ensures))

@@ -12,34 +12,24 @@ use Rattle.cipher.proofs.Macs.{cmac-alone, cmac-after}
 use borrow.Author.Needs.{needs}
 use Rattle.cipher.proofs.cmac.mac_after_block.Statement.{statement}
 use Rattle.cipher.proofs.cmac.mac_after_block.Tie as tie
-use Rattle.cipher.proofs.cmac.mac_after_block.Reads as reads
-use Rattle.cipher.proofs.cmac.mac_after_block.Lts as lts
-use Rattle.cipher.proofs.aes.encrypt_with.Reads as encrypt-with-reads
-use Rattle.cipher.proofs.cmac.mac_from.Reads as mac-from-reads
 
--- src/cmac.rt:135:43
 slice-aggregate-mac-from : tie.Need-slice-aggregate-mac-from
 slice-aggregate-mac-from c = search needs
 
--- src/cmac.rt:135:9
 mac-from-requires : tie.Need-mac-from-requires
 mac-from-requires c κs = search needs
 
--- src/cmac.rt:135:9
 returns : tie.Need-returns
 returns c =
     let a = c .before .before .before .before .before .before .args in
     c .mac-from .ensures ∙ cmac-alone (cipher (wordsBytes (a .w .now))) 16 R128 (lit< tt) (a .t3) (a .«data» .now) (c .before .before .if1 .taken)
 
--- src/cmac.rt:137:9
 encrypt-with-requires : tie.Need-encrypt-with-requires
 encrypt-with-requires c κs = search needs
 
--- src/cmac.rt:138:5
 mac-from-requires-2 : tie.Need-mac-from-requires-2
 mac-from-requires-2 c κs = search needs
 
--- src/cmac.rt:129:1
 returns-2 : tie.Need-returns-2
 returns-2 c =
     let a = c .before .before .before .before .before .before .args in

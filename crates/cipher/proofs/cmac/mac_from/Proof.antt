@@ -1,11 +1,9 @@
-use mathlib.Core.Path.{_≡_, refl, sym, ap, ap₂, _∙_}
-use mathlib.Core.List.{List}
-use Prim.Native.Nat.{ℕ, _+_, _-_, _≤_}
+use Prim.Native.Nat.{_-_}
 use native.Mathlib.Omega.{arith}
 use borrow.Author.Needs.{needs}
 use lib.Dec.{lit<}
 use lib.ListN.{length}
-use Rattle.cipher.specs.Bytes.{_⊕_, wordsBytes}
+use Rattle.cipher.specs.Bytes.{wordsBytes}
 use Rattle.cipher.specs.Fips197.{cipher}
 use Rattle.cipher.specs.Sp80038b.{R128}
 use Rattle.cipher.proofs.Macs.{Mac, mac-start, mac-step, mac-done}

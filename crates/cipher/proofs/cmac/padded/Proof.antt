@@ -2,39 +2,28 @@ use Rattle.cipher.proofs.Macs.{tail-padded}
 use borrow.Author.Needs.{needs}
 use Rattle.cipher.proofs.cmac.padded.Statement.{statement}
 use Rattle.cipher.proofs.cmac.padded.Tie as tie
-use Rattle.cipher.proofs.cmac.padded.Reads as reads
-use Rattle.cipher.proofs.cmac.padded.Lts as lts
-use Rattle.cipher.proofs.bytes.copy.Reads as copy-reads
 
--- src/cmac.rt:68:17
 sub-copy : tie.Need-sub-copy
 sub-copy c = search needs
 
--- src/cmac.rt:68:17
 part-copy-start : tie.Need-part-copy-start
 part-copy-start c = search needs
 
--- src/cmac.rt:68:17
 part-copy-end : tie.Need-part-copy-end
 part-copy-end c = search needs
 
--- src/cmac.rt:68:27
 slice-aggregate-copy : tie.Need-slice-aggregate-copy
 slice-aggregate-copy c = search needs
 
--- src/cmac.rt:68:5
 copy-requires : tie.Need-copy-requires
 copy-requires c κs = search needs
 
--- src/cmac.rt:69:13
 sub-n : tie.Need-sub-n
 sub-n c = search needs
 
--- src/cmac.rt:70:5
 array-write-out : tie.Need-array-write-out
 array-write-out c = search needs
 
--- src/cmac.rt:62:1
 returns : tie.Need-returns
 returns c =
     let a = c .before .before .before .before .before .args in

@@ -1,8 +1,8 @@
-use mathlib.Core.Path.{_≡_, refl, sym, ap, ap₂, _∙_}
-use Prim.Native.Nat.{ℕ, _+_, _-_, _*_, _/_, _%_}
+use mathlib.Core.Path.{_≡_}
+use Prim.Native.Nat.{_-_}
 use native.Mathlib.Omega.{arith}
 use borrow.Author.Needs.{needs}
-use lib.ListN.{length, getD}
+use lib.ListN.{length}
 use Rattle.cipher.specs.Sp80038b.{shiftLeft}
 use Rattle.cipher.proofs.Filling.{Filled, fill-start, fill-all}
 use Rattle.cipher.proofs.Macs.{length-shiftLeft, shift-turn}

@@ -6,24 +6,16 @@ use Rattle.cipher.proofs.DesWiths.{back-with-schedule}
 use borrow.Author.Needs.{needs}
 use Rattle.cipher.proofs.fold.decrypt_des_under.Statement.{statement}
 use Rattle.cipher.proofs.fold.decrypt_des_under.Tie as tie
-use Rattle.cipher.proofs.fold.decrypt_des_under.Reads as reads
-use Rattle.cipher.proofs.fold.decrypt_des_under.Lts as lts
-use Rattle.cipher.proofs.des.decrypt_with.Reads as decrypt-with-reads
-use Rattle.cipher.proofs.des.schedule.Reads as schedule-reads
 
--- src/fold.rt:25:14
 schedule-requires : tie.Need-schedule-requires
 schedule-requires c κs = search needs
 
--- src/fold.rt:26:27
 slice-aggregate-decrypt-with : tie.Need-slice-aggregate-decrypt-with
 slice-aggregate-decrypt-with c = search needs
 
--- src/fold.rt:26:5
 decrypt-with-requires : tie.Need-decrypt-with-requires
 decrypt-with-requires c κs = search needs
 
--- src/fold.rt:20:1
 returns : tie.Need-returns
 unfolding desBackWith
 returns c =

@@ -6,24 +6,16 @@ use Rattle.cipher.proofs.DesWiths.{with-schedule}
 use borrow.Author.Needs.{needs}
 use Rattle.cipher.proofs.fold.encrypt_des_under.Statement.{statement}
 use Rattle.cipher.proofs.fold.encrypt_des_under.Tie as tie
-use Rattle.cipher.proofs.fold.encrypt_des_under.Reads as reads
-use Rattle.cipher.proofs.fold.encrypt_des_under.Lts as lts
-use Rattle.cipher.proofs.des.encrypt_with.Reads as encrypt-with-reads
-use Rattle.cipher.proofs.des.schedule.Reads as schedule-reads
 
--- src/fold.rt:16:14
 schedule-requires : tie.Need-schedule-requires
 schedule-requires c κs = search needs
 
--- src/fold.rt:17:27
 slice-aggregate-encrypt-with : tie.Need-slice-aggregate-encrypt-with
 slice-aggregate-encrypt-with c = search needs
 
--- src/fold.rt:17:5
 encrypt-with-requires : tie.Need-encrypt-with-requires
 encrypt-with-requires c κs = search needs
 
--- src/fold.rt:11:1
 returns : tie.Need-returns
 unfolding desWith
 returns c =

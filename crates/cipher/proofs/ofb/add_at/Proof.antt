@@ -5,31 +5,22 @@ use Rattle.cipher.proofs.Blocks.{added}
 use borrow.Author.Needs.{needs}
 use Rattle.cipher.proofs.ofb.add_at.Statement.{statement}
 use Rattle.cipher.proofs.ofb.add_at.Tie as tie
-use Rattle.cipher.proofs.ofb.add_at.Reads as reads
-use Rattle.cipher.proofs.ofb.add_at.Lts as lts
-use Rattle.cipher.proofs.bytes.xor_into.Reads as xor-into-reads
 
--- src/ofb.rt:18:21
 sub-xor-into : tie.Need-sub-xor-into
 sub-xor-into c = search needs
 
--- src/ofb.rt:18:21
 part-xor-into-start : tie.Need-part-xor-into-start
 part-xor-into-start c = search needs
 
--- src/ofb.rt:18:21
 part-xor-into-end : tie.Need-part-xor-into-end
 part-xor-into-end c = search needs
 
--- src/ofb.rt:18:5
 xor-into-requires : tie.Need-xor-into-requires
 xor-into-requires c κs = search needs
 
--- src/ofb.rt:14:1
 same-length : tie.Need-same-length
 same-length c = search needs
 
--- src/ofb.rt:14:1
 returns : tie.Need-returns
 returns c =
     let a = c .before .before .before .before .before .args in
