@@ -1,6 +1,6 @@
 -- What the layers above take: the laws of the ciphers, modes and folds of this crate, with nothing about a cipher left to assume. Assumes nothing.
 use mathlib.Core.Path.{_≡_}
-use mathlib.Core.List.{List}
+use mathlib.Core.List.{List, _++_}
 use Prim.Native.Nat.{ℕ, _*_}
 use lib.Dec.{lit<}
 use lib.ListN.{length, length-replicate, replicate}
@@ -8,13 +8,13 @@ use Rattle.cipher.specs.Bytes.{Bytes}
 use Rattle.cipher.specs.Fips197.{aesEncrypt, aesDecrypt}
 use Rattle.cipher.specs.Fips46.{desEncrypt, desDecrypt}
 use Rattle.cipher.specs.Fold.{underEach, underEachBack}
-use Rattle.cipher.specs.Sp80038a.{cbcEncrypt, cbcDecrypt, ofb}
+use Rattle.cipher.specs.Sp80038a.{cbcEncrypt, cbcDecrypt, ofb, ofbInput}
 use Rattle.cipher.specs.Sp80038b.{cmac, R128}
 use Rattle.cipher.proofs.ByteLists.{Block, Bytes-replicate}
 use Rattle.cipher.proofs.AesInverse.{aes-decrypt-encrypt, aes-encrypt-decrypt}
 use Rattle.cipher.proofs.AesLengths.{aesEncrypt-long, aesEncrypt-bytes, aesDecrypt-long, aesDecrypt-bytes}
 use Rattle.cipher.proofs.DesInverse.{des-decrypt-encrypt, des-encrypt-decrypt, length-desEncrypt, length-desDecrypt, Bytes-desEncrypt, Bytes-desDecrypt}
-use Rattle.cipher.proofs.ModeLaws.{Undone, length-cbcEncrypt, Bytes-cbcEncrypt, length-cbcDecrypt, Bytes-cbcDecrypt, cbc-decrypt-encrypt, cbc-encrypt-decrypt, length-ofb, ofb-twice, Bytes-ofb}
+use Rattle.cipher.proofs.ModeLaws.{Undone, length-cbcEncrypt, Bytes-cbcEncrypt, length-cbcDecrypt, Bytes-cbcDecrypt, cbc-decrypt-encrypt, cbc-encrypt-decrypt, length-ofb, ofb-twice, ofb-parts, Bytes-ofb}
 use Rattle.cipher.proofs.Folds.{good-under, good-back, back-under, under-back}
 use Rattle.cipher.proofs.Macs.{mac-block}
 
@@ -105,6 +105,10 @@ module _ (key : List ℕ) (k : Block 16 key) where
 
     pub aes-ofb-twice : ofb (aesEncrypt key) 16 iv (ofb (aesEncrypt key) 16 iv l) ≡ l
     aes-ofb-twice = ofb-twice _ 16 (λ b h. aesEncrypt-block key k b .long) (lit< tt) iv l (g .long)
+
+    -- a second part after n whole blocks goes on at the boundary
+    pub aes-ofb-parts : (n : ℕ) (m : List ℕ) → length l ≡ n * 16 → ofb (aesEncrypt key) 16 iv (l ++ m) ≡ ofb (aesEncrypt key) 16 iv l ++ ofb (aesEncrypt key) 16 (ofbInput (aesEncrypt key) 16 n iv) m
+    aes-ofb-parts n m h = ofb-parts _ 16 (lit< tt) n iv l m h
 
     pub Bytes-aes-ofb : Bytes l → Bytes (ofb (aesEncrypt key) 16 iv l)
     Bytes-aes-ofb b = Bytes-ofb _ 16 (λ c h. aesEncrypt-block key k c) iv l g b

@@ -1,15 +1,15 @@
 -- CBC decryption undoes CBC encryption and the other way round, OFB undoes itself, and all keep lengths and bytes: for any width above 0,
 -- from the laws of one block. Assumes nothing.
 use mathlib.Core.Path.{_≡_, refl, sym, ap, ap₂, _∙_}
-use mathlib.Core.List.{List, [], _++_, append-nil}
+use mathlib.Core.List.{List, [], _++_, append-nil, append-assoc}
 use mathlib.Core.Logic.{⊎-elim}
 use Prim.Native.Nat.{ℕ, zero, suc, _+_, _-_, _*_, _/_, _≤_, _<_}
-use native.Mathlib.Nat.{le-of-eq, suc-mul, add-comm, div-add-mod', add-mul-div-right, div-eq-of-lt, zero-add, zero-mul, mod-lt}
+use native.Mathlib.Nat.{le-of-eq, suc-mul, add-comm, div-add-mod', add-mul-div-right, div-eq-of-lt, zero-add, zero-mul, suc-add, mod-lt}
 use native.Mathlib.Omega.{arith}
 use lib.ListN.{length, take, drop, length-append, length-drop, take-append-drop, drop-of-length-le}
-use lib.Seq.{take-at, drop-at, length-take-le, take-all, take-nil, drop-nil}
+use lib.Seq.{take-at, drop-at, length-take-le, take-all, take-nil, drop-nil, take-append-le, drop-append-le}
 use Rattle.cipher.specs.Bytes.{Bytes, _⊕_}
-use Rattle.cipher.specs.Sp80038a.{chain, blocks, cbcOut, cbcBack, itself, cbcEncrypt, cbcDecrypt, ofbOut, ofbNext, ofb}
+use Rattle.cipher.specs.Sp80038a.{chain, blocks, cbcOut, cbcBack, itself, cbcEncrypt, cbcDecrypt, ofbOut, ofbNext, ofbInput, ofb}
 use Rattle.cipher.proofs.Numbers.{le-or-lt}
 use Rattle.cipher.proofs.Xor.{⊕-twice, length-⊕, Bytes-⊕}
 use Rattle.cipher.proofs.ByteLists.{Block, empty, Bytes-nil, Bytes-append, Bytes-take, Bytes-drop}
@@ -20,6 +20,13 @@ pub blocks-times : (w n : ℕ) → 0 < w → blocks w (n * w) ≡ n
 unfolding blocks
 blocks-times w n p =
     ap (λ (k : ℕ). k / w) (add-comm (n * w) (w - 1)) ∙ add-mul-div-right (w - 1) n p ∙ ap (λ (k : ℕ). k + n) (div-eq-of-lt (omega arith)) ∙ zero-add n
+
+-- n whole blocks more
+pub blocks-add : (w n k : ℕ) → 0 < w → blocks w (n * w + k) ≡ n + blocks w k
+unfolding blocks
+blocks-add w n k p =
+    let e : n * w + k + (w - 1) ≡ k + (w - 1) + n * w = omega arith in
+    ap (λ (m : ℕ). m / w) e ∙ add-mul-div-right (k + (w - 1)) n p ∙ add-comm ((k + (w - 1)) / w) n
 
 -- a string of n + 1 blocks is a block and n blocks
 first-block : (w n : ℕ) (l : List ℕ) → length l ≡ suc n * w → Bytes l → Block w (take w l)
@@ -215,6 +222,32 @@ module _ (CIPH : List ℕ → List ℕ) (w : ℕ) where
       pub ofb-twice : ofb CIPH w iv (ofb CIPH w iv l) ≡ l
       unfolding ofb run
       ofb-twice = ap (λ (n : ℕ). run iv n (ofb CIPH w iv l)) (ap (blocks w) length-ofb) ∙ twice (blocks w (length l)) iv l g (blocks-cover w (length l) pos)
+
+  -- one block first, or last
+  input-first : (n : ℕ) (s : List ℕ) → ofbInput CIPH w n (CIPH s) ≡ CIPH (ofbInput CIPH w n s)
+  unfolding ofbInput
+  input-first zero s = refl
+  input-first (suc n) s = ap CIPH (input-first n s)
+
+  -- what follows n whole blocks goes on from their last output
+  run-parts : (n m : ℕ) (s a b : List ℕ) → length a ≡ n * w → run s (n + m) (a ++ b) ≡ run s n a ++ run (ofbInput CIPH w n s) m b
+  unfolding ofbInput
+  run-parts zero m s a b h =
+      let e : [] ≡ a = empty a (h ∙ zero-mul w) in
+      ap (λ (k : ℕ). run s k (a ++ b)) (zero-add m) ∙ ap (λ (l : List ℕ). run s m (l ++ b)) (sym e) ∙ ap (λ (l : List ℕ). l ++ run s m b) (sym (run-zero s a))
+  run-parts (suc n) m s a b h =
+      let e : suc n * w ≡ n * w + w = suc-mul n w in
+      let k : w ≤ length a = omega arith in
+      let i : run (CIPH s) (n + m) (drop w a ++ b) ≡ run (CIPH s) n (drop w a) ++ run (ofbInput CIPH w n (CIPH s)) m b = run-parts n m (CIPH s) (drop w a) b (other-blocks w n a h) in
+      ap (λ (j : ℕ). run s j (a ++ b)) (suc-add n m) ∙ run-more (n + m) s (a ++ b)
+      ∙ rw (take-append-le w a b k, drop-append-le w a b k, i, input-first n s, run-more n s a, append-assoc)
+
+  pub ofb-parts : 0 < w → (n : ℕ) (iv a b : List ℕ) → length a ≡ n * w → ofb CIPH w iv (a ++ b) ≡ ofb CIPH w iv a ++ ofb CIPH w (ofbInput CIPH w n iv) b
+  unfolding ofb run
+  ofb-parts pos n iv a b h =
+      ap (λ (k : ℕ). run iv k (a ++ b)) (ap (blocks w) (length-append a b ∙ ap (λ (k : ℕ). k + length b) h) ∙ blocks-add w n (length b) pos)
+      ∙ run-parts n (blocks w (length b)) iv a b h
+      ∙ ap (λ (k : ℕ). run iv k a ++ run (ofbInput CIPH w n iv) (blocks w (length b)) b) (sym (ap (blocks w) h ∙ blocks-times w n pos))
 
   -- bytes in, bytes out
   module _ (keeps : (b : List ℕ) → Block w b → Block w (CIPH b)) where

@@ -2,13 +2,15 @@
 use mathlib.Core.Path.{_≡_, sym, ap, _∙_}
 use mathlib.Core.List.{List, _++_}
 use mathlib.Core.Bool.{true, false}
-use Prim.Native.Nat.{ℕ, _+_, _%_, _≤_, _<_}
+use Prim.Native.Nat.{ℕ, zero, suc, _+_, _/_, _%_, _≤_, _<_}
+use native.Mathlib.Nat.{add-div-right}
+use native.Mathlib.Numerals.{add-one}
 use native.Mathlib.Omega.{arith}
 use borrow.Author.Tests.{eq-eqb, ne-eqb}
 use lib.Dec.{eqb}
 use lib.ListN.{length, take, drop, length-take}
 use Rattle.cipher.specs.Bytes.{_⊕_}
-use Rattle.cipher.specs.Sp80038a.{cbcOut, cbcBack, itself, ofbOut, ofbNext, whole, ifWhole, onWhole}
+use Rattle.cipher.specs.Sp80038a.{cbcOut, cbcBack, itself, ofbOut, ofbNext, ofbInput, whole, ifWhole, onWhole}
 use Rattle.cipher.proofs.Xor.{length-⊕}
 use Rattle.cipher.proofs.Copies.{length-part}
 use Rattle.cipher.proofs.Chains.{Run, run-step}
@@ -35,6 +37,13 @@ module _ (CIPH : List ℕ → List ℕ) (w : ℕ) (pos : 0 < w) {s₀ buf₀ s b
   ofb-turn y buf′ h e long put r =
       let k : length (take w (drop at buf)) ≤ length y = rw length-take (omega arith) in
       rw e (run-step _ _ w (take w (drop at buf) ⊕ y) buf′ pos r h (length-⊕ _ _ k) (ap (λ (z : List ℕ). take w (drop at buf) ⊕ z) e) put)
+
+-- ---- the input block of OFB
+
+-- at a block boundary, and after one more block
+pub input-turn : (CIPH : List ℕ → List ℕ) (w : ℕ) → 0 < w → (iv s y : List ℕ) (at : ℕ) → s ≡ ofbInput CIPH w (at / w) iv → y ≡ CIPH s → y ≡ ofbInput CIPH w ((at + w) / w) iv
+unfolding ofbInput
+input-turn CIPH w pos iv s y at e f = f ∙ ap CIPH e ∙ ap (λ (n : ℕ). ofbInput CIPH w n iv) (sym (add-div-right at pos ∙ add-one (at / w)))
 
 -- ---- calls that work on whole blocks alone
 

@@ -32,6 +32,11 @@ module _ (CIPH : List ℕ → List ℕ) (w : ℕ) where
   unfoldable pub ofbNext : List ℕ → List ℕ → List ℕ
   ofbNext i p = CIPH i
 
+  -- I(n + 1), the input block after n blocks
+  unfoldable pub ofbInput : ℕ → List ℕ → List ℕ
+  ofbInput zero iv = iv
+  ofbInput (suc n) iv = CIPH (ofbInput n iv)
+
   unfoldable pub ofb : List ℕ → List ℕ → List ℕ
   ofb iv p = chain ofbOut ofbNext w iv (blocks w (length p)) p
 

@@ -27,3 +27,4 @@ pub use fold::decrypt_des_under_each;
 pub use fold::encrypt_aes128_under_each;
 pub use fold::encrypt_des_under_each;
 pub use ofb::apply_aes128_ofb;
+pub use ofb::apply_aes128_ofb_parts;

@@ -8,7 +8,7 @@ ghost use lib.ListN.{length, take, drop};
 ghost use Rattle.cipher.specs.Bytes.{_⊕_, wordsBytes};
 ghost use Rattle.cipher.specs.AesTables.{TeTable};
 ghost use Rattle.cipher.specs.Fips197.{aesEncrypt, cipher};
-ghost use Rattle.cipher.specs.Sp80038a.{ofb};
+ghost use Rattle.cipher.specs.Sp80038a.{ofb, ofbInput, blocks};
 
 // Adds an output block to the bytes of s from index at on, as far as both reach.
 fn add_at(s: &mut [u8], at: usize, output: [u8; 16])
@@ -18,10 +18,12 @@ fn add_at(s: &mut [u8], at: usize, output: [u8; 16])
     bytes::xor_into(&mut s[at..], output);
 }
 
-fn apply(data: &mut [u8], te: &[u32], w: &[u32], iv: [u8; 16])
+// Goes through data and returns the input block of the block that would come next.
+fn apply(data: &mut [u8], te: &[u32], w: &[u32], iv: [u8; 16]) -> [u8; 16]
     requires { ⌜ TeTable (now te) ⌝ }
     requires { ⌜ length (now w) ≡ 44 ⌝ }
-    ensures { λ _. ⌜ now («data» .exit) ≡ ofb (cipher (wordsBytes (now (w .entry)))) 16 iv (now («data» .entry)) ⌝ }
+    ensures { λ r. ⌜ now («data» .exit) ≡ ofb (cipher (wordsBytes (now (w .entry)))) 16 iv (now («data» .entry)) ⌝ }
+    ensures { λ r. ⌜ r ≡ ofbInput (cipher (wordsBytes (now (w .entry)))) 16 (blocks 16 (length (now («data» .entry)))) iv ⌝ }
 {
     let mut input = iv;
     let mut at = 0;
@@ -31,6 +33,7 @@ fn apply(data: &mut [u8], te: &[u32], w: &[u32], iv: [u8; 16])
         input = output;
         at += 16;
     }
+    input
 }
 
 // Encrypts or decrypts data in place, whatever its length.
@@ -40,4 +43,15 @@ pub fn apply_aes128_ofb(data: &mut [u8], key: [u8; 16], iv: [u8; 16])
     let te = aes::te_table();
     let w = aes::expand(&te, key);
     apply(data, &te, &w, iv);
+}
+
+// The same for two parts, of which the second starts at a block boundary: what is left of the first part's last block is skipped.
+pub fn apply_aes128_ofb_parts(first: &mut [u8], second: &mut [u8], key: [u8; 16], iv: [u8; 16])
+    ensures { λ _. ⌜ now (first .exit) ≡ ofb (aesEncrypt key) 16 iv (now (first .entry)) ⌝ }
+    ensures { λ _. ⌜ now (second .exit) ≡ ofb (aesEncrypt key) 16 (ofbInput (aesEncrypt key) 16 (blocks 16 (length (now (first .entry)))) iv) (now (second .entry)) ⌝ }
+{
+    let te = aes::te_table();
+    let w = aes::expand(&te, key);
+    let next = apply(first, &te, &w, iv);
+    apply(second, &te, &w, next);
 }

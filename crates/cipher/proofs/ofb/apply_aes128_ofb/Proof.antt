@@ -33,7 +33,7 @@ unfolding aesEncrypt
 returns c =
     let e = c .before .before .before .before .before .before in
     let a = e .before .before .before .before .args in
-    c .before .before .apply .ensures ∙ ap (λ (w : List ℕ). ofb (cipher w) 16 (a .iv) (a .«data» .now)) (e .expand .ensures)
+    c .before .before .apply .ensures .0 ∙ ap (λ (w : List ℕ). ofb (cipher w) 16 (a .iv) (a .«data» .now)) (e .expand .ensures)
 
 pub apply-aes128-ofb-spec : {M : Type 1} → statement M
 apply-aes128-ofb-spec =
