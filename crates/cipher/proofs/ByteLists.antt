@@ -11,6 +11,10 @@ use Rattle.cipher.specs.Bytes.{Bytes, tab}
 pub Bytes-nil : Bytes []
 Bytes-nil i = lit< tt
 
+pub Bytes-cons : (x : ℕ) (s : List ℕ) → x < 256 → Bytes s → Bytes (x ∷ s)
+Bytes-cons x s h b zero = h
+Bytes-cons x s h b (suc i) = b i
+
 pub Bytes-append : (s t : List ℕ) → Bytes s → Bytes t → Bytes (s ++ t)
 Bytes-append [] t h k i = k i
 Bytes-append (x ∷ s) t h k zero = h zero

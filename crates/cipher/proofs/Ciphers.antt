@@ -14,7 +14,7 @@ use Rattle.cipher.proofs.ByteLists.{Block, Bytes-replicate}
 use Rattle.cipher.proofs.AesInverse.{aes-decrypt-encrypt, aes-encrypt-decrypt}
 use Rattle.cipher.proofs.AesLengths.{aesEncrypt-long, aesEncrypt-bytes, aesDecrypt-long, aesDecrypt-bytes}
 use Rattle.cipher.proofs.DesInverse.{des-decrypt-encrypt, des-encrypt-decrypt, length-desEncrypt, length-desDecrypt, Bytes-desEncrypt, Bytes-desDecrypt}
-use Rattle.cipher.proofs.ModeLaws.{Undone, length-cbcEncrypt, Bytes-cbcEncrypt, length-cbcDecrypt, Bytes-cbcDecrypt, cbc-decrypt-encrypt, cbc-encrypt-decrypt, length-ofb, ofb-twice, ofb-parts, Bytes-ofb}
+use Rattle.cipher.proofs.ModeLaws.{Undone, length-cbcEncrypt, Bytes-cbcEncrypt, length-cbcDecrypt, Bytes-cbcDecrypt, cbc-decrypt-encrypt, cbc-encrypt-decrypt, length-ofb, ofb-twice, ofb-parts, input-block, Bytes-ofb}
 use Rattle.cipher.proofs.Folds.{good-under, good-back, back-under, under-back}
 use Rattle.cipher.proofs.Macs.{mac-block}
 
@@ -105,6 +105,9 @@ module _ (key : List ℕ) (k : Block 16 key) where
 
     pub aes-ofb-twice : ofb (aesEncrypt key) 16 iv (ofb (aesEncrypt key) 16 iv l) ≡ l
     aes-ofb-twice = ofb-twice _ 16 (λ b h. aesEncrypt-block key k b .long) (lit< tt) iv l (g .long)
+
+    pub aes-input-block : (n : ℕ) → Block 16 (ofbInput (aesEncrypt key) 16 n iv)
+    aes-input-block n = input-block _ 16 (λ c h. aesEncrypt-block key k c) n iv g
 
     -- a second part after n whole blocks goes on at the boundary
     pub aes-ofb-parts : (n : ℕ) (m : List ℕ) → length l ≡ n * 16 → ofb (aesEncrypt key) 16 iv (l ++ m) ≡ ofb (aesEncrypt key) 16 iv l ++ ofb (aesEncrypt key) 16 (ofbInput (aesEncrypt key) 16 n iv) m

@@ -251,6 +251,11 @@ module _ (CIPH : List ℕ → List ℕ) (w : ℕ) where
 
   -- bytes in, bytes out
   module _ (keeps : (b : List ℕ) → Block w b → Block w (CIPH b)) where
+    pub input-block : (n : ℕ) (iv : List ℕ) → Block w iv → Block w (ofbInput CIPH w n iv)
+    unfolding ofbInput
+    input-block zero iv g = g
+    input-block (suc n) iv g = keeps (ofbInput CIPH w n iv) (input-block n iv g)
+
     Bytes-run : (n : ℕ) (s l : List ℕ) → Block w s → Bytes l → Bytes (run s n l)
     Bytes-run zero s l g b = rw (run-zero s l) Bytes-nil
     Bytes-run (suc n) s l g b =
