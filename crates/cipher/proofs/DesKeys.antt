@@ -1,4 +1,4 @@
--- The key schedule on words: PC-1, the shifts, PC-2 by its table, and the loop over the rounds. Assumes nothing.
+-- The key schedule on words: PC-1, the shifts, PC-2 by its table, the loop over the rounds, and the keys with the last one first. Assumes nothing.
 use mathlib.Core.Path.{_≡_, refl, sym, ap, ap₂, _∙_}
 use mathlib.Core.Bool.{Bool, true, false}
 use mathlib.Core.List.{List, [], _∷_, _++_, append-assoc, append-nil, map, reverse}
@@ -92,9 +92,8 @@ once-at i (inr e) = rw e
 pub twice : (i : ℕ) → i < 16 → 2 ≤ i → ((i ≡ 8) ⊎ (i ≡ 15) → ⊥) → getD shifts i 0 ≡ 2
 twice i h k n = shift-count i h ∙ rw (le-ltb i 2 k, ne-eqb i 8 (λ e. n (inl e)), ne-eqb i 15 (λ e. n (inr e)))
 
-pub shift-word : (m n c i : ℕ) → c < 2 ^ (m + n) → getD shifts i 0 ≡ m
-    → bits (n + m) (c % 2 ^ n * 2 ^ m + c / 2 ^ n) ≡ leftShift (getD shifts i 0) (bits (m + n) c)
-shift-word m n c i h e = bits-rotate m n c h ∙ ap (λ (k : ℕ). leftShift k (bits (m + n) c)) (sym e)
+pub shift-word : (m n c k : ℕ) → c < 2 ^ (m + n) → k ≡ m → bits (n + m) (c % 2 ^ n * 2 ^ m + c / 2 ^ n) ≡ leftShift k (bits (m + n) c)
+shift-word m n c k h e = bits-rotate m n c h ∙ ap (λ (j : ℕ). leftShift j (bits (m + n) c)) (sym e)
 
 -- ---- PC-2
 
@@ -211,7 +210,7 @@ map-append : (f : ℕ → List Bool) (s t : List ℕ) → map f (s ++ t) ≡ map
 map-append f [] t = refl
 map-append f (x ∷ s) t = ap (λ (l : List (List Bool)). f x ∷ l) (map-append f s t)
 
-keys-step : (i c d c′ d′ k : ℕ) → i < 16 → bits 28 c′ ≡ leftShift (getD shifts i 0) (bits 28 c) → bits 28 d′ ≡ leftShift (getD shifts i 0) (bits 28 d)
+pub keys-step : (i c d c′ d′ k : ℕ) → i < 16 → bits 28 c′ ≡ leftShift (getD shifts i 0) (bits 28 c) → bits 28 d′ ≡ leftShift (getD shifts i 0) (bits 28 d)
     → keyBits k ≡ select PC2 (bits 28 c′ ++ bits 28 d′)
     → keyBits k ∷ keysFrom (drop (suc i) shifts) (bits 28 c′) (bits 28 d′) ≡ keysFrom (drop i shifts) (bits 28 c) (bits 28 d)
 unfolding keysFrom shifts
@@ -219,7 +218,7 @@ keys-step i c d c′ d′ k h p q e =
     ap₂ _∷_ (e ∙ ap₂ (λ (a b : List Bool). select PC2 (a ++ b)) p q) (ap₂ (keysFrom (drop (suc i) shifts)) p q)
     ∙ ap (λ (ns : List ℕ). keysFrom ns (bits 28 c) (bits 28 d)) (sym (drop-cons shifts i 0 h))
 
-no-keys : (c d : List Bool) → keysFrom (drop 16 shifts) c d ≡ []
+pub no-keys : (c d : List Bool) → keysFrom (drop 16 shifts) c d ≡ []
 unfolding keysFrom shifts
 no-keys c d = refl
 
@@ -256,3 +255,27 @@ pub keys-done : {goal : List (List Bool)} {c d : ℕ} {ks : List ℕ} {i : ℕ} 
 keys-done {goal} {c} {d} {ks} {i} r h =
     let e : i ≡ 16 = omega arith in
     sym (append-nil (map keyBits ks)) ∙ ap₂ _++_ (ap (map keyBits) (sym (take-all 16 ks (omega arith)))) (sym (no-keys (bits 28 c) (bits 28 d))) ∙ rw e at (r .rest)
+
+-- ---- the last key first
+
+-- the keys of the first n rounds, from Cn and Dn
+unfoldable pub keysBack : ℕ → List Bool → List Bool → List (List Bool)
+keysBack zero c d = []
+keysBack (suc n) c d =
+    select PC2 (c ++ d) ∷ keysBack n (leftShift (28 - getD shifts n 0) c) (leftShift (28 - getD shifts n 0) d)
+
+pub keys-step-back : (i c d c′ d′ k : ℕ) → bits 28 c′ ≡ leftShift (28 - getD shifts i 0) (bits 28 c) → bits 28 d′ ≡ leftShift (28 - getD shifts i 0) (bits 28 d)
+    → keyBits k ≡ select PC2 (bits 28 c ++ bits 28 d) → keyBits k ∷ keysBack i (bits 28 c′) (bits 28 d′) ≡ keysBack (suc i) (bits 28 c) (bits 28 d)
+unfolding keysBack
+keys-step-back i c d c′ d′ k p q e = ap₂ _∷_ e (ap₂ (keysBack i) p q)
+
+-- the shifts are 28 places in all, so that C16 is C0
+back-down : (g h : ℕ → Bool) → keysBack 16 (down 28 g) (down 28 h) ≡ reverse (keysFrom shifts (down 28 g) (down 28 h))
+unfolding keysBack keysFrom shifts leftShift down
+back-down g h = refl
+
+pub keys-back : (c d : ℕ) → keysBack 16 (bits 28 c) (bits 28 d) ≡ reverse (keysFrom shifts (bits 28 c) (bits 28 d))
+keys-back c d =
+    ap₂ (keysBack 16) (bits-down 28 c) (bits-down 28 d)
+    ∙ back-down (bitAt c) (bitAt d)
+    ∙ ap₂ (λ (a b : List Bool). reverse (keysFrom shifts a b)) (sym (bits-down 28 c)) (sym (bits-down 28 d))

@@ -248,14 +248,17 @@ state l r = halves (held l) (held r)
 abbrev pub Rounds : List (List Bool) → ℕ → ℕ → ℕ → ℕ → ℕ → Type 0
 Rounds ks l₀ r₀ l r i = rounds (drop i ks) (state l r) ≡ rounds ks (state l₀ r₀)
 
+-- one round on the words that hold the halves
+pub round-turn : (ks : List (List Bool)) (k : List Bool) (l r x : ℕ) → held x ≡ f (held r) k → rounds ks (state r (bitXor l x)) ≡ rounds (k ∷ ks) (state l r)
+unfolding rounds round
+round-turn ks k l r x q = ap (λ (t : List Bool). rounds ks (halves (held r) t)) (held-xor l x ∙ ap (λ (t : List Bool). held l ⊞ t) q)
+
 pub rounds-turn : (ks : List (List Bool)) (l₀ r₀ l r i x : ℕ) (k : List Bool) → Rounds ks l₀ r₀ l r i → i < length ks → getD ks i [] ≡ k
     → held x ≡ f (held r) k → Rounds ks l₀ r₀ r (bitXor l x) (i + 1)
-unfolding rounds round
 rounds-turn ks l₀ r₀ l r i x k h b e q =
     rw (add-one i)
-    (ap (λ (t : List Bool). rounds (drop (suc i) ks) (halves (held r) t))
-    (held-xor l x ∙ ap (λ (t : List Bool). held l ⊞ t) (q ∙ ap (f (held r)) (sym e)))
-    ∙ ap (λ (t : List (List Bool)). rounds t (state l r)) (sym (drop-cons ks i [] b))
+    (round-turn (drop (suc i) ks) k l r x q
+    ∙ ap (λ (t : List (List Bool)). rounds t (state l r)) (ap (λ (j : List Bool). j ∷ drop (suc i) ks) (sym e) ∙ sym (drop-cons ks i [] b))
     ∙ h)
 
 pub rounds-done : (ks : List (List Bool)) (l₀ r₀ l r i : ℕ) → Rounds ks l₀ r₀ l r i → length ks ≤ i → state l r ≡ rounds ks (state l₀ r₀)
@@ -302,12 +305,12 @@ key-back ks n i e h =
 
 -- ---- a block under a key
 
-module _ (key b out ks : List ℕ) (k : map keyBits ks ≡ KS (toBits key)) where
-  pub encrypted : out ≡ toBytes 8 (crypt (map keyBits ks) (toBits b)) → out ≡ desEncrypt key b
+module _ (key b out : List ℕ) (ks : List (List Bool)) (k : ks ≡ KS (toBits key)) where
+  pub encrypted : out ≡ toBytes 8 (crypt ks (toBits b)) → out ≡ desEncrypt key b
   unfolding desEncrypt encipher
   encrypted e = e ∙ ap (λ (t : List (List Bool)). toBytes 8 (crypt t (toBits b))) k
 
-  pub decrypted : out ≡ toBytes 8 (crypt (reverse (map keyBits ks)) (toBits b)) → out ≡ desDecrypt key b
+  pub decrypted : out ≡ toBytes 8 (crypt (reverse ks) (toBits b)) → out ≡ desDecrypt key b
   unfolding desDecrypt decipher
   decrypted e = e ∙ ap (λ (t : List (List Bool)). toBytes 8 (crypt (reverse t) (toBits b))) k
 

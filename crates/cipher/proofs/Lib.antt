@@ -14,6 +14,7 @@ pub mod Compare
 pub mod Copies
 pub mod DesInverse
 pub mod DesKeys
+pub mod DesOnce
 pub mod DesPc2
 pub mod DesRounds
 pub mod DesSp

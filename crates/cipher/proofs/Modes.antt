@@ -2,7 +2,7 @@
 use mathlib.Core.Path.{_≡_, sym, ap, _∙_}
 use mathlib.Core.List.{List, _++_}
 use mathlib.Core.Bool.{true, false}
-use Prim.Native.Nat.{ℕ, zero, suc, _+_, _/_, _%_, _≤_, _<_}
+use Prim.Native.Nat.{ℕ, _+_, _/_, _%_, _≤_, _<_}
 use native.Mathlib.Nat.{add-div-right}
 use native.Mathlib.Numerals.{add-one}
 use native.Mathlib.Omega.{arith}

@@ -2,7 +2,7 @@
 // anew.
 ghost use mathlib.Core.Path.{_≡_};
 ghost use mathlib.Core.List.{_++_, map, reverse};
-ghost use Prim.Native.Nat.{_+_, _*_, _/_, _%_, _^_, _<_};
+ghost use Prim.Native.Nat.{_+_, _-_, _*_, _/_, _%_, _^_, _<_};
 ghost use lib.ListN.{length, getD};
 ghost use Rattle.cipher.specs.Bits.{bits, _⊞_, toBits, toBytes};
 ghost use Rattle.cipher.specs.Fips46.{select, leftShift, f, shifts, KS, PC2, crypt, desEncrypt, desDecrypt};
@@ -16,8 +16,7 @@ pub fn encrypt_des_block(data: [u8; 8], key: [u8; 8]) -> [u8; 8]
 {
     let sp = sp_table();
     let pc2 = pc2_table();
-    let ks = schedule(&pc2, key);
-    encrypt_with(&sp, &ks, data)
+    encrypt_once(&sp, &pc2, data, key)
 }
 
 pub fn decrypt_des_block(data: [u8; 8], key: [u8; 8]) -> [u8; 8]
@@ -25,8 +24,7 @@ pub fn decrypt_des_block(data: [u8; 8], key: [u8; 8]) -> [u8; 8]
 {
     let sp = sp_table();
     let pc2 = pc2_table();
-    let ks = schedule(&pc2, key);
-    decrypt_with(&sp, &ks, data)
+    decrypt_once(&sp, &pc2, data, key)
 }
 
 // ---- triple DES with two keys
@@ -90,6 +88,57 @@ pub(crate) fn decrypt_with(sp: &[u32], ks: &[u64], block: [u8; 8]) -> [u8; 8]
         l = r;
         r = next;
         i += 1;
+    }
+    last(l, r)
+}
+
+// A block under a key that serves it alone, and back: each round key is made in its round, so that the processor makes the next ones while
+// it waits for a round.
+pub(crate) fn encrypt_once(sp: &[u32], pc2: &[u32], block: [u8; 8], key: [u8; 8]) -> [u8; 8]
+    requires { ⌜ SpTable (now sp) ⌝ }
+    requires { ⌜ Pc2Table (now pc2) ⌝ }
+    ensures { λ r. ⌜ r ≡ desEncrypt key block ⌝ }
+{
+    let y = transpose(load(key));
+    let mut c = c0(y);
+    let mut d = d0(y);
+    let x = initial(block);
+    let mut l = left(x);
+    let mut r = right(x);
+    let mut i = 0;
+    while i < 16 {
+        c = shifted(c, i);
+        d = shifted(d, i);
+        let k = round_key(pc2, c, d);
+        let next = l ^ mangle(sp, r, k);
+        l = r;
+        r = next;
+        i += 1;
+    }
+    last(l, r)
+}
+
+// C16 and D16 are C0 and D0, since the shifts make 28 places in all; from there C and D turn back.
+pub(crate) fn decrypt_once(sp: &[u32], pc2: &[u32], block: [u8; 8], key: [u8; 8]) -> [u8; 8]
+    requires { ⌜ SpTable (now sp) ⌝ }
+    requires { ⌜ Pc2Table (now pc2) ⌝ }
+    ensures { λ r. ⌜ r ≡ desDecrypt key block ⌝ }
+{
+    let y = transpose(load(key));
+    let mut c = c0(y);
+    let mut d = d0(y);
+    let x = initial(block);
+    let mut l = left(x);
+    let mut r = right(x);
+    let mut i = 16;
+    while 0 < i {
+        i -= 1;
+        let k = round_key(pc2, c, d);
+        let next = l ^ mangle(sp, r, k);
+        l = r;
+        r = next;
+        c = shifted_back(c, i);
+        d = shifted_back(d, i);
     }
     last(l, r)
 }
@@ -204,6 +253,19 @@ fn shifted(c: u32, i: usize) -> u32
     match i {
         0 | 1 | 8 | 15 => c % 0x800_0000 * 2 + c / 0x800_0000,
         _ => c % 0x400_0000 * 4 + c / 0x400_0000,
+    }
+}
+
+// C or D of round i, from that of round i + 1.
+fn shifted_back(c: u32, i: usize) -> u32
+    requires { ⌜ c < 2 ^ 28 ⌝ }
+    requires { ⌜ i < 16 ⌝ }
+    ensures { λ r. ⌜ bits 28 r ≡ leftShift (28 - getD shifts i 0) (bits 28 c) ⌝ }
+    ensures { λ r. ⌜ r < 2 ^ 28 ⌝ }
+{
+    match i {
+        0 | 1 | 8 | 15 => c % 2 * 0x800_0000 + c / 2,
+        _ => c % 4 * 0x400_0000 + c / 4,
     }
 }
 

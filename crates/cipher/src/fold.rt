@@ -9,24 +9,6 @@ ghost use Rattle.cipher.specs.Fips197.{aesEncrypt};
 ghost use Rattle.cipher.specs.Fips46.{desEncrypt, desDecrypt};
 ghost use Rattle.cipher.specs.Fold.{underEach, underEachBack};
 
-fn encrypt_des_under(sp: &[u32], pc2: &[u32], block: [u8; 8], key: [u8; 8]) -> [u8; 8]
-    requires { ⌜ SpTable (now sp) ⌝ }
-    requires { ⌜ Pc2Table (now pc2) ⌝ }
-    ensures { λ r. ⌜ r ≡ desEncrypt key block ⌝ }
-{
-    let ks = des::schedule(pc2, key);
-    des::encrypt_with(sp, &ks, block)
-}
-
-fn decrypt_des_under(sp: &[u32], pc2: &[u32], block: [u8; 8], key: [u8; 8]) -> [u8; 8]
-    requires { ⌜ SpTable (now sp) ⌝ }
-    requires { ⌜ Pc2Table (now pc2) ⌝ }
-    ensures { λ r. ⌜ r ≡ desDecrypt key block ⌝ }
-{
-    let ks = des::schedule(pc2, key);
-    des::decrypt_with(sp, &ks, block)
-}
-
 fn encrypt_aes128_under(te: &[u32], block: [u8; 16], key: [u8; 16]) -> [u8; 16]
     requires { ⌜ TeTable (now te) ⌝ }
     ensures { λ r. ⌜ r ≡ aesEncrypt key block ⌝ }
@@ -44,7 +26,7 @@ fn encrypt_des_each(sp: &[u32], pc2: &[u32], block: [u8; 8], keys: &[u8]) -> [u8
     let mut at = 0;
     while 8 <= keys.len() - at {
         let key = bytes::load8(keys, at);
-        let next = encrypt_des_under(sp, pc2, state, key);
+        let next = des::encrypt_once(sp, pc2, state, key);
         state = next;
         at += 8;
     }
@@ -61,7 +43,7 @@ fn decrypt_des_each(sp: &[u32], pc2: &[u32], block: [u8; 8], keys: &[u8]) -> [u8
     while 0 < at {
         at -= 8;
         let key = bytes::load8(keys, at);
-        let next = decrypt_des_under(sp, pc2, state, key);
+        let next = des::decrypt_once(sp, pc2, state, key);
         state = next;
     }
     state

@@ -55,8 +55,8 @@ returns c =
     let once = twice .before .before .before in
     let s2 = once .before .before .before .schedule2 in
     let s1 = once .before .before .before .before .before .schedule in
-    tdea2-decrypted _ _ _ _ _ _ (decrypted _ _ _ (s1 .result) (s1 .ensures) (once .decrypt-with .ensures))
-    (encrypted _ _ _ (s2 .result) (s2 .ensures) (twice .encrypt-with .ensures)) (decrypted _ _ _ (s1 .result) (s1 .ensures) (c .decrypt-with2 .ensures))
+    tdea2-decrypted _ _ _ _ _ _ (decrypted _ _ _ _ (s1 .ensures) (once .decrypt-with .ensures))
+    (encrypted _ _ _ _ (s2 .ensures) (twice .encrypt-with .ensures)) (decrypted _ _ _ _ (s1 .ensures) (c .decrypt-with2 .ensures))
 
 pub decrypt-3des-block-spec : {M : Type 1} → statement M
 decrypt-3des-block-spec =

@@ -22,14 +22,14 @@ returns : tie.Need-returns
 returns c =
     let a = c .before .before in
     let i = a .args .i in
-    (shift-word 2 26 (a .args .c) i (a .pre .0) (twice i (a .pre .1) (c .if1 .left) (c .before .match .rest .1)), omega arith)
+    (shift-word 2 26 (a .args .c) _ (a .pre .0) (twice i (a .pre .1) (c .if1 .left) (c .before .match .rest .1)), omega arith)
 
 returns-2 : tie.Need-returns-2
 returns-2 c =
     let a = c .before in
     let i = a .args .i in
     let h = ⊎-elim (λ w. once-at i (w .keys1)) (λ w. once-first i (a .pre .1) (w .1 .taken)) (c .match .came) in
-    (shift-word 1 27 (a .args .c) i (a .pre .0) h, omega arith)
+    (shift-word 1 27 (a .args .c) _ (a .pre .0) h, omega arith)
 
 pub shifted-spec : {M : Type 1} → statement M
 shifted-spec =

@@ -26,8 +26,8 @@ sub-at c = omega arith
 load8-requires : tie.Need-load8-requires Inv-loop μ-loop
 load8-requires c κs = omega arith
 
-decrypt-des-under-requires : tie.Need-decrypt-des-under-requires Inv-loop μ-loop
-decrypt-des-under-requires c κs = c .before .before .before .before .before .before .pre
+decrypt-once-requires : tie.Need-decrypt-once-requires Inv-loop μ-loop
+decrypt-once-requires c κs = c .before .before .before .before .before .before .pre
 
 loop-less : tie.Need-loop-less Inv-loop μ-loop
 loop-less c = omega arith
@@ -37,7 +37,7 @@ loop-again c =
     let lp = c .before .before .before in
     let v = lp .loop .inv in
     let e : lp .loop .at ≡ lp .loop .at - 8 + 8 = omega arith in
-    (omega arith, omega arith, back-step desDecrypt 8 (lit< tt) (rw e at (v .2)) (omega arith) _ _ (c .before .load8 .ensures) (c .decrypt-des-under .ensures))
+    (omega arith, omega arith, back-step desDecrypt 8 (lit< tt) (rw e at (v .2)) (omega arith) _ _ (c .before .load8 .ensures) (c .decrypt-once .ensures))
 
 returns : tie.Need-returns Inv-loop μ-loop
 returns c =
@@ -46,4 +46,4 @@ returns c =
     back-done desDecrypt 8 (rw e at (v .2))
 
 pub decrypt-des-each-spec : {M : Type 1} → statement M
-decrypt-des-each-spec = tie.close (tie.spec Inv-loop μ-loop mul-at loop-holds sub-at load8-requires decrypt-des-under-requires loop-less loop-again returns)
+decrypt-des-each-spec = tie.close (tie.spec Inv-loop μ-loop mul-at loop-holds sub-at load8-requires decrypt-once-requires loop-less loop-again returns)

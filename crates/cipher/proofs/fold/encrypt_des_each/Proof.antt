@@ -22,8 +22,8 @@ sub-loop c = omega arith
 load8-requires : tie.Need-load8-requires Inv-loop μ-loop
 load8-requires c κs = omega arith
 
-encrypt-des-under-requires : tie.Need-encrypt-des-under-requires Inv-loop μ-loop
-encrypt-des-under-requires c κs = c .before .before .before .before .before .before .pre
+encrypt-once-requires : tie.Need-encrypt-once-requires Inv-loop μ-loop
+encrypt-once-requires c κs = c .before .before .before .before .before .before .pre
 
 add-at : tie.Need-add-at Inv-loop μ-loop
 add-at c = omega arith
@@ -32,10 +32,10 @@ loop-less : tie.Need-loop-less Inv-loop μ-loop
 loop-less c = omega arith
 
 loop-again : tie.Need-loop-again Inv-loop μ-loop
-loop-again c = under-step desEncrypt 8 (lit< tt) (c .before .before .before .loop .inv) (omega arith) _ _ (c .before .load8 .ensures) (c .encrypt-des-under .ensures)
+loop-again c = under-step desEncrypt 8 (lit< tt) (c .before .before .before .loop .inv) (omega arith) _ _ (c .before .load8 .ensures) (c .encrypt-once .ensures)
 
 returns : tie.Need-returns Inv-loop μ-loop
 returns c = under-done desEncrypt 8 (c .before .loop .inv) (omega arith)
 
 pub encrypt-des-each-spec : {M : Type 1} → statement M
-encrypt-des-each-spec = tie.close (tie.spec Inv-loop μ-loop loop-holds sub-loop load8-requires encrypt-des-under-requires add-at loop-less loop-again returns)
+encrypt-des-each-spec = tie.close (tie.spec Inv-loop μ-loop loop-holds sub-loop load8-requires encrypt-once-requires add-at loop-less loop-again returns)

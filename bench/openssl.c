@@ -1,0 +1,187 @@
+// OpenSSL's libcrypto, by its low-level functions: DES in portable C, AES in assembly that does not
+// use the processor's AES instructions. They are deprecated in favour of EVP, whose calls cost more
+// than a block; for a comparison of ciphers they are the stronger opponent.
+#define OPENSSL_SUPPRESS_DEPRECATED
+#include "bench.h"
+
+#include <openssl/aes.h>
+#include <openssl/des.h>
+#include <string.h>
+
+static void start(void)
+{
+}
+
+static void aes_block(const struct input *in, uint8_t *out)
+{
+    AES_KEY k;
+
+    AES_set_encrypt_key(in->key, 128, &k);
+    AES_encrypt(in->text, out, &k);
+}
+
+static void aes_block_back(const struct input *in, uint8_t *out)
+{
+    AES_KEY k;
+
+    AES_set_decrypt_key(in->key, 128, &k);
+    AES_decrypt(in->text, out, &k);
+}
+
+static void aes_chain(const struct input *in, uint8_t *out)
+{
+    AES_KEY k;
+
+    AES_set_encrypt_key(in->key, 128, &k);
+    memcpy(out, in->iv, AES_BLOCK);
+    for (int i = 0; i < AES_BLOCKS; i++)
+        AES_encrypt(out, out, &k);
+}
+
+static void aes_ofb(const struct input *in, uint8_t *out)
+{
+    AES_KEY k;
+    uint8_t state[AES_BLOCK];
+    int used = 0;
+
+    AES_set_encrypt_key(in->key, 128, &k);
+    memcpy(state, in->iv, AES_BLOCK);
+    AES_ofb128_encrypt(in->text, out, AES_TEXT, &k, state, &used);
+}
+
+// The next subkey of CMAC: x shifted by a bit, and 0x87 added where a bit fell out.
+static void double_subkey(uint8_t *x)
+{
+    uint8_t high = x[0] >> 7;
+
+    for (int i = 0; i < AES_BLOCK - 1; i++)
+        x[i] = (uint8_t)(x[i] << 1 | x[i + 1] >> 7);
+    x[AES_BLOCK - 1] = (uint8_t)(x[AES_BLOCK - 1] << 1 ^ high * 0x87);
+}
+
+static void add_bytes(uint8_t *to, const uint8_t *from, size_t n)
+{
+    for (size_t i = 0; i < n; i++)
+        to[i] ^= from[i];
+}
+
+// The low-level functions have no CMAC, so this is one over AES_encrypt, for a text whose last
+// block is short.
+static void aes_cmac(const struct input *in, uint8_t *out)
+{
+    AES_KEY k;
+    uint8_t subkey[AES_BLOCK] = {0};
+    const size_t last = AES_TEXT / AES_BLOCK * AES_BLOCK;
+
+    AES_set_encrypt_key(in->key, 128, &k);
+    AES_encrypt(subkey, subkey, &k);
+    double_subkey(subkey);
+    double_subkey(subkey);
+    memset(out, 0, AES_BLOCK);
+    for (size_t at = 0; at < last; at += AES_BLOCK) {
+        add_bytes(out, in->text + at, AES_BLOCK);
+        AES_encrypt(out, out, &k);
+    }
+    add_bytes(out, in->text + last, AES_TEXT - last);
+    out[AES_TEXT - last] ^= 0x80;
+    add_bytes(out, subkey, AES_BLOCK);
+    AES_encrypt(out, out, &k);
+}
+
+// OpenSSL's types for a block lack the const of what is only read.
+static DES_cblock *block_of(const uint8_t *bytes)
+{
+    return (DES_cblock *)(uintptr_t)bytes;
+}
+
+static void des_block(const struct input *in, uint8_t *out)
+{
+    DES_key_schedule k;
+
+    DES_set_key_unchecked(block_of(in->key), &k);
+    DES_ecb_encrypt(block_of(in->text), block_of(out), &k, DES_ENCRYPT);
+}
+
+static void des_block_back(const struct input *in, uint8_t *out)
+{
+    DES_key_schedule k;
+
+    DES_set_key_unchecked(block_of(in->key), &k);
+    DES_ecb_encrypt(block_of(in->text), block_of(out), &k, DES_DECRYPT);
+}
+
+static void run_cbc(const struct input *in, uint8_t *out, long n, int way)
+{
+    DES_key_schedule k;
+    DES_cblock state = {0};
+
+    DES_set_key_unchecked(block_of(in->key), &k);
+    DES_ncbc_encrypt(in->text, out, n, &k, &state, way);
+}
+
+static void des_chain(const struct input *in, uint8_t *out)
+{
+    run_cbc(in, out, LONG_TEXT, DES_ENCRYPT);
+}
+
+static void cbc(const struct input *in, uint8_t *out)
+{
+    run_cbc(in, out, DES_TEXT, DES_ENCRYPT);
+}
+
+static void cbc_back(const struct input *in, uint8_t *out)
+{
+    run_cbc(in, out, DES_TEXT, DES_DECRYPT);
+}
+
+static void fold(const struct input *in, uint8_t *out)
+{
+    DES_key_schedule k;
+
+    memcpy(out, in->iv, DES_BLOCK);
+    for (int at = 0; at < DES_TEXT; at += DES_BLOCK) {
+        DES_set_key_unchecked(block_of(in->text + at), &k);
+        DES_ecb_encrypt(block_of(out), block_of(out), &k, DES_ENCRYPT);
+    }
+}
+
+static void fold_back(const struct input *in, uint8_t *out)
+{
+    DES_key_schedule k;
+
+    memcpy(out, in->iv, DES_BLOCK);
+    for (int at = DES_TEXT - DES_BLOCK; at >= 0; at -= DES_BLOCK) {
+        DES_set_key_unchecked(block_of(in->text + at), &k);
+        DES_ecb_encrypt(block_of(out), block_of(out), &k, DES_DECRYPT);
+    }
+}
+
+static void tdes_block(const struct input *in, uint8_t *out)
+{
+    DES_key_schedule k1;
+    DES_key_schedule k2;
+
+    DES_set_key_unchecked(block_of(in->key), &k1);
+    DES_set_key_unchecked(block_of(in->key2), &k2);
+    DES_ecb2_encrypt(block_of(in->text), block_of(out), &k1, &k2, DES_ENCRYPT);
+}
+
+const struct contestant openssl = {
+    "OpenSSL",
+    start,
+    {
+        [ROW_AES] = aes_block,
+        [ROW_AES_BACK] = aes_block_back,
+        [ROW_AES_CHAIN] = aes_chain,
+        [ROW_AES_OFB] = aes_ofb,
+        [ROW_AES_CMAC] = aes_cmac,
+        [ROW_DES] = des_block,
+        [ROW_DES_BACK] = des_block_back,
+        [ROW_DES_CHAIN] = des_chain,
+        [ROW_CBC] = cbc,
+        [ROW_CBC_BACK] = cbc_back,
+        [ROW_FOLD] = fold,
+        [ROW_FOLD_BACK] = fold_back,
+        [ROW_TDES] = tdes_block,
+    },
+};

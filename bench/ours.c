@@ -1,0 +1,125 @@
+// The proved functions, as the archive exports them. They work in place, so the input is copied first.
+#include "bench.h"
+
+#include <string.h>
+
+// A slice is its first byte's address and its length.
+void hernotxak_bench_aes128_encrypt(const uint8_t *key, size_t key_n, uint8_t *block, size_t block_n);
+void hernotxak_bench_aes128_decrypt(const uint8_t *key, size_t key_n, uint8_t *block, size_t block_n);
+void hernotxak_bench_aes128_ofb(const uint8_t *key, size_t key_n, const uint8_t *iv, size_t iv_n,
+                                uint8_t *text, size_t text_n);
+void hernotxak_bench_aes128_cmac(const uint8_t *key, size_t key_n, const uint8_t *text, size_t text_n,
+                                 uint8_t *mac, size_t mac_n);
+void hernotxak_bench_des_encrypt(const uint8_t *key, size_t key_n, uint8_t *block, size_t block_n);
+void hernotxak_bench_des_decrypt(const uint8_t *key, size_t key_n, uint8_t *block, size_t block_n);
+uint8_t hernotxak_bench_des_cbc_encrypt(const uint8_t *key, size_t key_n, uint8_t *text, size_t text_n);
+uint8_t hernotxak_bench_des_cbc_decrypt(const uint8_t *key, size_t key_n, uint8_t *text, size_t text_n);
+void hernotxak_bench_des_under_each(const uint8_t *keys, size_t keys_n, uint8_t *block, size_t block_n);
+void hernotxak_bench_des_under_each_back(const uint8_t *keys, size_t keys_n, uint8_t *block, size_t block_n);
+void hernotxak_bench_tdes2_encrypt(const uint8_t *key1, size_t key1_n, const uint8_t *key2, size_t key2_n,
+                                   uint8_t *block, size_t block_n);
+
+static void aes_block(const struct input *in, uint8_t *out)
+{
+    memcpy(out, in->text, AES_BLOCK);
+    hernotxak_bench_aes128_encrypt(in->key, AES_BLOCK, out, AES_BLOCK);
+}
+
+static void aes_block_back(const struct input *in, uint8_t *out)
+{
+    memcpy(out, in->text, AES_BLOCK);
+    hernotxak_bench_aes128_decrypt(in->key, AES_BLOCK, out, AES_BLOCK);
+}
+
+// The last block of the key stream over zeros is the IV encrypted again and again.
+static void aes_chain(const struct input *in, uint8_t *out)
+{
+    static uint8_t stream[LONG_TEXT];
+
+    memset(stream, 0, LONG_TEXT);
+    hernotxak_bench_aes128_ofb(in->key, AES_BLOCK, in->iv, AES_BLOCK, stream, LONG_TEXT);
+    memcpy(out, stream + LONG_TEXT - AES_BLOCK, AES_BLOCK);
+}
+
+static void aes_ofb(const struct input *in, uint8_t *out)
+{
+    memcpy(out, in->text, AES_TEXT);
+    hernotxak_bench_aes128_ofb(in->key, AES_BLOCK, in->iv, AES_BLOCK, out, AES_TEXT);
+}
+
+static void aes_cmac(const struct input *in, uint8_t *out)
+{
+    hernotxak_bench_aes128_cmac(in->key, AES_BLOCK, in->text, AES_TEXT, out, AES_BLOCK);
+}
+
+static void des_block(const struct input *in, uint8_t *out)
+{
+    memcpy(out, in->text, DES_BLOCK);
+    hernotxak_bench_des_encrypt(in->key, DES_BLOCK, out, DES_BLOCK);
+}
+
+static void des_block_back(const struct input *in, uint8_t *out)
+{
+    memcpy(out, in->text, DES_BLOCK);
+    hernotxak_bench_des_decrypt(in->key, DES_BLOCK, out, DES_BLOCK);
+}
+
+static void des_chain(const struct input *in, uint8_t *out)
+{
+    memcpy(out, in->text, LONG_TEXT);
+    hernotxak_bench_des_cbc_encrypt(in->key, DES_BLOCK, out, LONG_TEXT);
+}
+
+static void cbc(const struct input *in, uint8_t *out)
+{
+    memcpy(out, in->text, DES_TEXT);
+    hernotxak_bench_des_cbc_encrypt(in->key, DES_BLOCK, out, DES_TEXT);
+}
+
+static void cbc_back(const struct input *in, uint8_t *out)
+{
+    memcpy(out, in->text, DES_TEXT);
+    hernotxak_bench_des_cbc_decrypt(in->key, DES_BLOCK, out, DES_TEXT);
+}
+
+static void fold(const struct input *in, uint8_t *out)
+{
+    memcpy(out, in->iv, DES_BLOCK);
+    hernotxak_bench_des_under_each(in->text, DES_TEXT, out, DES_BLOCK);
+}
+
+static void fold_back(const struct input *in, uint8_t *out)
+{
+    memcpy(out, in->iv, DES_BLOCK);
+    hernotxak_bench_des_under_each_back(in->text, DES_TEXT, out, DES_BLOCK);
+}
+
+static void tdes_block(const struct input *in, uint8_t *out)
+{
+    memcpy(out, in->text, DES_BLOCK);
+    hernotxak_bench_tdes2_encrypt(in->key, DES_BLOCK, in->key2, DES_BLOCK, out, DES_BLOCK);
+}
+
+static void start(void)
+{
+}
+
+const struct contestant ours = {
+    "ours",
+    start,
+    {
+        [ROW_AES] = aes_block,
+        [ROW_AES_BACK] = aes_block_back,
+        [ROW_AES_CHAIN] = aes_chain,
+        [ROW_AES_OFB] = aes_ofb,
+        [ROW_AES_CMAC] = aes_cmac,
+        [ROW_DES] = des_block,
+        [ROW_DES_BACK] = des_block_back,
+        [ROW_DES_CHAIN] = des_chain,
+        [ROW_CBC] = cbc,
+        [ROW_CBC_BACK] = cbc_back,
+        [ROW_FOLD] = fold,
+        [ROW_FOLD_BACK] = fold_back,
+        [ROW_TDES] = tdes_block,
+    },
+};
