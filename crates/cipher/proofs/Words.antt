@@ -2,7 +2,7 @@
 use mathlib.Core.Path.{_≡_, refl, sym, ap, ap₂, _∙_}
 use mathlib.Core.List.{List, [], _∷_, _++_, map}
 use Prim.Native.Nat.{ℕ, zero, suc, _+_, _*_, _/_, _%_, _^_, _≤_, _<_}
-use native.Mathlib.Nat.{mod-lt, add-comm, add-mul-div-right, mul-add-mod-self-right, div-div-eq-div-mul}
+use native.Mathlib.Nat.{mod-lt}
 use native.Mathlib.Omega.{arith}
 use lib.Dec.{lit<}
 use lib.ListN.{length, take, drop, getD}
@@ -56,35 +56,6 @@ word-left x h =
     ap wordBytes e ∙ word-join (x / 65536 % 256) (x / 256 % 256) (x % 256) (x / 16777216 % 256) (low (x / 65536)) (low (x / 256)) (low x) (low (x / 16777216))
 
 -- ---- lists of words
-
--- ---- the bytes of two words that are joined to one of 64 bits
-
--- a multiple of 256 m above y does not reach the byte of y at m
-low-byte : (m : ℕ) → 0 < m → (a y : ℕ) → (a * 256 * m + y) / m % 256 ≡ y / m % 256
-low-byte m p a y =
-    ap (λ (n : ℕ). n / m % 256) (add-comm (a * 256 * m) y) ∙ ap (λ (n : ℕ). n % 256) (add-mul-div-right y (a * 256) p ∙ add-comm (y / m) (a * 256))
-    ∙ mul-add-mod-self-right a 256 (y / m)
-
-pub joined-bytes : (x y z : ℕ) → x < 2 ^ 32 → y < 2 ^ 32 → z ≡ x * 2 ^ 32 + y → (rest : List ℕ)
-    → z / 72057594037927936 ∷ z / 281474976710656 % 256 ∷ z / 1099511627776 % 256 ∷ z / 4294967296 % 256 ∷ z / 16777216 % 256 ∷ z / 65536 % 256 ∷ z / 256 % 256 ∷ z % 256 ∷ rest
-    ≡ wordBytes x ++ (wordBytes y ++ rest)
-unfolding wordBytes
-joined-bytes x y z h k e rest =
-    let up : z / 4294967296 ≡ x = omega arith in
-    let top : x / 16777216 % 256 ≡ x / 16777216 = omega arith in
-    let e₁ : z ≡ x * 256 * 16777216 + y = omega arith in
-    let e₂ : z ≡ x * 256 * 256 * 65536 + y = omega arith in
-    let e₃ : z ≡ x * 65536 * 256 * 256 + y = omega arith in
-    let b₃ : z / 72057594037927936 ≡ x / 16777216 = sym (div-div-eq-div-mul z 4294967296 16777216) ∙ ap (λ (n : ℕ). n / 16777216) up in
-    let b₂ : z / 281474976710656 ≡ x / 65536 = sym (div-div-eq-div-mul z 4294967296 65536) ∙ ap (λ (n : ℕ). n / 65536) up in
-    let b₁ : z / 1099511627776 ≡ x / 256 = sym (div-div-eq-div-mul z 4294967296 256) ∙ ap (λ (n : ℕ). n / 256) up in
-    (b₃ ∙ sym top)
-    ◂ (ap (λ (n : ℕ). n % 256) b₂
-    ◂ (ap (λ (n : ℕ). n % 256) b₁
-    ◂ (ap (λ (n : ℕ). n % 256) up
-    ◂ ((ap (λ (n : ℕ). n / 16777216 % 256) e₁ ∙ low-byte 16777216 (lit< tt) x y)
-    ◂ ((ap (λ (n : ℕ). n / 65536 % 256) e₂ ∙ low-byte 65536 (lit< tt) (x * 256) y)
-    ◂ ((ap (λ (n : ℕ). n / 256 % 256) e₃ ∙ low-byte 256 (lit< tt) (x * 65536) y) ◂ (omega arith ◂ refl)))))))
 
 pub words-append : (a b : List ℕ) → wordsBytes (a ++ b) ≡ wordsBytes a ++ wordsBytes b
 unfolding wordsBytes wordBytes

@@ -1,7 +1,7 @@
 // AES-128 of FIPS 197, one block each way. The state is four words, one for each of its columns, row 0 highest.
 ghost use mathlib.Core.Path.{_≡_};
 ghost use mathlib.Core.List.{[], _∷_, map};
-ghost use Prim.Native.Nat.{_*_, _+_, _<_, _^_, ℕ};
+ghost use Prim.Native.Nat.{ℕ};
 ghost use lib.ListN.{length};
 ghost use Rattle.cipher.specs.Bytes.{_⊕_, wordBytes, wordsBytes};
 ghost use Rattle.cipher.specs.Fips197;
@@ -41,35 +41,26 @@ fn load(b: [u8; 16]) -> Columns
     }
 }
 
-// Two words as one, so that their bytes are written at once: what is written byte by byte cannot be read as a word without a delay.
-fn joined(x: u32, y: u32) -> u64
-    ensures { λ r. ⌜ (r ≡ x * 2 ^ 32 + y) × (x < 2 ^ 32) × (y < 2 ^ 32) ⌝ }
-{
-    (x as u64) * 0x1_0000_0000 + (y as u64)
-}
-
 fn store(s: Columns) -> [u8; 16]
     ensures { λ r. ⌜ r ≡ wordsBytes (s .a ∷ s .b ∷ s .c ∷ s .d ∷ []) ⌝ }
 {
-    let p = joined(s.a, s.b);
-    let q = joined(s.c, s.d);
     [
-        (p / 0x100_0000_0000_0000) as u8,
-        (p / 0x1_0000_0000_0000 % 0x100) as u8,
-        (p / 0x100_0000_0000 % 0x100) as u8,
-        (p / 0x1_0000_0000 % 0x100) as u8,
-        (p / 0x100_0000 % 0x100) as u8,
-        (p / 0x1_0000 % 0x100) as u8,
-        (p / 0x100 % 0x100) as u8,
-        (p % 0x100) as u8,
-        (q / 0x100_0000_0000_0000) as u8,
-        (q / 0x1_0000_0000_0000 % 0x100) as u8,
-        (q / 0x100_0000_0000 % 0x100) as u8,
-        (q / 0x1_0000_0000 % 0x100) as u8,
-        (q / 0x100_0000 % 0x100) as u8,
-        (q / 0x1_0000 % 0x100) as u8,
-        (q / 0x100 % 0x100) as u8,
-        (q % 0x100) as u8,
+        (s.a / 0x100_0000 % 0x100) as u8,
+        (s.a / 0x1_0000 % 0x100) as u8,
+        (s.a / 0x100 % 0x100) as u8,
+        (s.a % 0x100) as u8,
+        (s.b / 0x100_0000 % 0x100) as u8,
+        (s.b / 0x1_0000 % 0x100) as u8,
+        (s.b / 0x100 % 0x100) as u8,
+        (s.b % 0x100) as u8,
+        (s.c / 0x100_0000 % 0x100) as u8,
+        (s.c / 0x1_0000 % 0x100) as u8,
+        (s.c / 0x100 % 0x100) as u8,
+        (s.c % 0x100) as u8,
+        (s.d / 0x100_0000 % 0x100) as u8,
+        (s.d / 0x1_0000 % 0x100) as u8,
+        (s.d / 0x100 % 0x100) as u8,
+        (s.d % 0x100) as u8,
     ]
 }
 
