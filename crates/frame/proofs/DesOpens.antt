@@ -1,0 +1,88 @@
+-- DES opening, step by step. Assumes nothing.
+use mathlib.Core.Path.{_≡_, refl, sym, ap, ap₂, _∙_}
+use mathlib.Core.Bool.{Bool, true, false}
+use mathlib.Core.List.{List, [], _∷_, _++_}
+use Prim.Native.Nat.{ℕ, _+_, _-_, _*_, _%_, _≤_, _<_}
+use native.Mathlib.Omega.{arith}
+use borrow.Author.Tests.{ltb-false}
+use lib.Dec.{eqb, ltb}
+use lib.ListN.{length, take, drop, length-drop}
+use lib.Seq.{take-all}
+use Rattle.cipher.specs.Fips46.{desDecrypt}
+use Rattle.cipher.specs.Fold.{underEachBack}
+use Rattle.frame.specs.Outcome.{decide}
+use Rattle.frame.specs.Delivery.{delivering}
+use Rattle.frame.specs.DesFrame.{macStart, recovered, macHolds, desPlain, numberOf, idOf, payloadOf, desOpening}
+use Rattle.frame.specs.DesSteps.{openRows, plainRows, desAccepting}
+use Rattle.frame.specs.Guards.{firstOf, pick}
+use Rattle.frame.specs.Tests.{isnt, both, same}
+use Rattle.frame.proofs.Decides.{AllFalse, numbered, first-passes, either-false, is-number}
+use Rattle.frame.proofs.Sames.{same-is}
+
+-- the rest of a list, as a part from e to its end
+pub rest-part : (l : List ℕ) (e : ℕ) → take (length l - e) (drop e l) ≡ drop e l
+rest-part l e = take-all (length l - e) (drop e l) (rw length-drop (omega arith))
+
+-- what is recovered from the MAC is compared with what it started as
+pub mac-checked : (code : ℕ) (plain mac back start : List ℕ) (r : Bool) → mac ≡ take (length plain - (length plain - 8)) (drop (length plain - 8) plain)
+    → back ≡ underEachBack desDecrypt 8 (take (length plain - 8) plain) mac → start ≡ macStart (length plain + 2) code
+    → (r ≡ true → back ≡ start) × (back ≡ start → r ≡ true) → r ≡ macHolds code plain
+unfolding macHolds recovered
+mac-checked code plain mac back start r em eb es h =
+    same-is back start r h
+    ∙ ap₂ same (eb ∙ ap (underEachBack desDecrypt 8 (take (length plain - 8) plain)) (em ∙ rest-part plain (length plain - 8))) es
+
+-- ---- the plain text
+
+-- what the part from the ninth byte on is without its MAC
+pub stripped : (plain p : List ℕ) → p ≡ take (length (take (length plain - 8) (drop 8 plain)) - 8) (take (length plain - 8) (drop 8 plain)) → p ≡ payloadOf plain
+unfolding payloadOf
+stripped plain p e =
+    let l : length (drop 8 plain) - 8 ≡ length plain - 16 = rw length-drop (omega arith) in
+    e ∙ rw (rest-part plain 8, l)
+
+module _ (code : ℕ) (id plain : List ℕ) where
+  pub bad-mac : macHolds code plain ≡ false → 13 ≡ firstOf (plainRows code id plain)
+  unfolding plainRows firstOf pick isnt
+  bad-mac h = rw h
+
+  pub bad-id : macHolds code plain ≡ true → same (idOf plain) id ≡ false → 14 ≡ firstOf (plainRows code id plain)
+  unfolding plainRows firstOf pick isnt
+  bad-id h i = rw (h, i)
+
+  pub good-plain : macHolds code plain ≡ true → same (idOf plain) id ≡ true → 0 ≡ firstOf (plainRows code id plain)
+  unfolding plainRows firstOf pick isnt
+  good-plain h i = rw (h, i)
+
+  pub plain-passes : (k : ℕ) → k ≡ firstOf (plainRows code id plain) → k ≡ 0 → AllFalse (plainRows code id plain)
+  unfolding plainRows numbered both
+  plain-passes k e z = first-passes (plainRows code id plain) k refl e z
+
+-- ---- the guard
+
+pub record Openable (id key sealed : ℕ) : Type 0 where
+  pub rows : AllFalse (openRows id key sealed)
+  pub six : id ≡ 6
+  pub eight : key ≡ 8
+  pub blocks : sealed % 8 ≡ 0
+  pub enough : 16 ≤ sealed
+  pub short : sealed ≤ 253
+
+pub open-passes : (id key sealed k : ℕ) → k ≡ firstOf (openRows id key sealed) → k ≡ 0 → Openable id key sealed
+unfolding openRows numbered both
+open-passes id key sealed k e z =
+    let a = first-passes (openRows id key sealed) k refl e z in
+    let b = either-false (isnt (eqb id 6)) (isnt (eqb key 8)) (a .0) in
+    record {
+      rows = a;
+      six = is-number id 6 (b .0);
+      eight = is-number key 8 (b .1);
+      blocks = is-number (sealed % 8) 0 (a .1 .0);
+      enough = ltb-false sealed 16 (a .1 .1 .0);
+      short = ltb-false 253 sealed (a .1 .1 .1 .0);
+    }
+
+-- the rows by lengths alone, then those of the plain text
+pub open-steps : (key id sealed : List ℕ) (code room : ℕ) → desOpening key code id sealed room ≡ decide (openRows (length id) (length key) (length sealed)) (desAccepting code id (desPlain key sealed) room)
+unfolding desOpening openRows desAccepting plainRows delivering decide
+open-steps key id sealed code room = refl

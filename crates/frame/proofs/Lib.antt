@@ -1,0 +1,17 @@
+pub mod AesOpens
+pub mod AesSeals
+pub mod AesTrip
+pub mod Authentications
+pub mod Decides
+pub mod DesOpens
+pub mod DesSeals
+pub mod DesTrip
+pub mod Fronts
+pub mod Overs
+pub mod Packages
+pub mod Pads
+pub mod Pieces
+pub mod Refusals
+pub mod Sames
+pub mod Sealing
+pub mod Trims

@@ -1,0 +1,33 @@
+use mathlib.Core.Path.{refl}
+use lib.ListN.{length}
+use Rattle.frame.proofs.Decides.{refused-meets, accepted-meets, no-room, room-enough}
+use Rattle.frame.proofs.Overs.{copied-over}
+use borrow.Author.Needs.{needs}
+use Rattle.frame.proofs.deliver.deliver.Statement.{statement}
+use Rattle.frame.proofs.deliver.deliver.Tie as tie
+
+refused-requires : tie.Need-refused-requires
+refused-requires c κs = search needs
+
+returns : tie.Need-returns
+returns c =
+    let i = c .before in
+    let a = i .before .before .before .args in
+    rw (no-room (a .transaction-number) (a .payload .now) (length (a .out .now)) (i .if1 .taken)) (refused-meets 16 _ (a .out .now) (c .refused .ensures))
+
+copy-requires : tie.Need-copy-requires
+copy-requires c κs = search needs
+
+same-length : tie.Need-same-length
+same-length c = search needs
+
+returns-2 : tie.Need-returns-2
+returns-2 c =
+    let cp = c .before .before in
+    let i = cp .before .before in
+    let a = i .before .before .before .args in
+    rw (room-enough (a .transaction-number) (a .payload .now) (length (a .out .now)) (i .if1 .left))
+    (accepted-meets _ (a .payload .now) _ (a .out .now) _ refl refl refl (copied-over (a .payload .now) (a .out .now) _ (i .if1 .left) (cp .copy .ensures)))
+
+pub deliver-spec : {M : Type 1} → statement M
+deliver-spec = tie.close (tie.spec refused-requires returns copy-requires same-length returns-2)

@@ -1,0 +1,63 @@
+use mathlib.Core.Path.{_≡_, refl, ap, _∙_}
+use Prim.Native.Nat.{ℕ}
+use mathlib.Core.List.{List}
+use lib.ListN.{length}
+use Rattle.frame.specs.Outcome.{over}
+use Rattle.frame.specs.Package.{packageRows, packaged, packaging}
+use Rattle.frame.proofs.Decides.{guard-meets, passed-meets, accepted-meets}
+use Rattle.frame.proofs.Packages.{package-passes}
+use borrow.Author.Needs.{needs}
+use Rattle.frame.proofs.des.generate_registration_package_des.Statement.{statement}
+use Rattle.frame.proofs.des.generate_registration_package_des.Tie as tie
+
+guard-package-requires : tie.Need-guard-package-requires
+guard-package-requires c κs = search needs
+
+refused-requires : tie.Need-refused-requires
+refused-requires c κs = search needs
+
+returns : tie.Need-returns
+unfolding packaging
+returns c =
+    let i = c .before in
+    let g = i .before in
+    let a = g .before .before .before .before .args in
+    guard-meets (packageRows (length (a .key .now)) (length (a .plain .now)) (length (a .out .now))) _ _ _ (a .out .now) (g .guard-package .ensures) (i .if1 .taken) (c .refused .ensures)
+
+eight-requires : tie.Need-eight-requires
+eight-requires c κs = package-passes _ _ _ _ (c .before .guard-package .ensures) (c .if1 .left) .eight
+
+write-package-requires : tie.Need-write-package-requires
+write-package-requires c κs =
+    let i = c .before .before in
+    let p = package-passes _ _ _ _ (i .before .guard-package .ensures) (i .if1 .left) in
+    (p .blocks, (p .some, p .fits))
+
+same-length : tie.Need-same-length
+same-length c = search needs
+
+returns-2 : tie.Need-returns-2
+unfolding packaging
+returns-2 c =
+    let w = c .before .before in
+    let e = w .before .before in
+    let i = e .before in
+    let g = i .before in
+    let a = g .before .before .before .before .args in
+    let p = a .plain .now in
+    let o = a .out .now in
+    let b : packaged (e .eight .result) p ≡ packaged (a .key .now) p = ap (λ (k : List ℕ). packaged k p) (e .eight .ensures) in
+    passed-meets (packageRows (length (a .key .now)) (length p) (length o)) _ _ o _ (package-passes _ _ _ _ (g .guard-package .ensures) (i .if1 .left) .rows)
+    (accepted-meets 0 _ _ o _ refl (w .write-package .ensures .0 ∙ ap length b) refl (w .write-package .ensures .1 ∙ ap (λ (l : List ℕ). over l o) b))
+
+pub generate-registration-package-des-spec : {M : Type 1} → statement M
+generate-registration-package-des-spec =
+    tie.close
+    (tie.spec
+    guard-package-requires
+    refused-requires
+    returns
+    eight-requires
+    write-package-requires
+    same-length
+    returns-2)

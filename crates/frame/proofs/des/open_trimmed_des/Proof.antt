@@ -1,0 +1,93 @@
+use mathlib.Core.Path.{_≡_, sym, ap, _∙_}
+use Prim.Native.Nat.{ℕ, _≤_}
+use native.Mathlib.Omega.{arith}
+use mathlib.Core.List.{List}
+use denote.Ref.{now}
+use lib.ListN.{length, take, replicate}
+use lib.Seq.{length-take-le}
+use Rattle.cipher.specs.Bytes.{Bytes}
+use Rattle.frame.specs.Outcome.{Outcome, accepted, over}
+use Rattle.frame.specs.DesFrame.{desPlain, numberOf, payloadOf}
+use Rattle.frame.specs.Trimmed.{trim}
+use Rattle.frame.proofs.Decides.{refused-meets}
+use Rattle.frame.proofs.Overs.{front}
+use Rattle.frame.proofs.Trims.{trimmed-refuses, trimmed-opens}
+use borrow.Author.Needs.{needs}
+use Rattle.frame.proofs.des.open_trimmed_des.Statement.{statement}
+use Rattle.frame.proofs.des.open_trimmed_des.Tie as tie
+
+slice-aggregate-open-des : tie.Need-slice-aggregate-open-des
+slice-aggregate-open-des c = search needs
+
+open-des-requires : tie.Need-open-des-requires
+open-des-requires c κs = search needs
+
+refused-requires : tie.Need-refused-requires
+refused-requires c κs = search needs
+
+returns : tie.Need-returns
+returns c =
+    let i = c .before in
+    let op = i .before .before in
+    let k = op .before .before .before in
+    let a = k .before .before .before .args in
+    let b : Bytes (a .«data» .now) = λ j. omega (arith, k .shared-slice-known3 .given j) in
+    rw (trimmed-refuses (a .key .now) (a .id .now) (a .«data» .now) (a .code) b _ (op .open-des .ensures .number) (length (a .out .now)) (i .if1 .taken)) (refused-meets _ _ (a .out .now) (c .refused .ensures))
+
+array-share-prefix-work : tie.Need-array-share-prefix-work
+unfolding accepted
+array-share-prefix-work c =
+    let op = c .before .before in
+    let k = op .before .before .before in
+    let a = k .before .before .before .args in
+    let b : Bytes (a .«data» .now) = λ j. omega (arith, k .shared-slice-known3 .given j) in
+    let t = trimmed-opens (a .key .now) (a .id .now) (a .«data» .now) (a .code) b _ (op .open-des .ensures .number) (length (a .out .now)) (c .if1 .left) in
+    let n = op .open-des .ensures .length-is ∙ ap (λ (o : Outcome). length (o .bytes)) (t .0) in
+    let s = t .2 in
+    omega arith
+
+slice-aggregate-trim-payload : tie.Need-slice-aggregate-trim-payload
+slice-aggregate-trim-payload c = sym (length-take-le _ _ (array-share-prefix-work (c .before)))
+
+trim-payload-requires : tie.Need-trim-payload-requires
+trim-payload-requires c κs = search needs
+
+deliver-requires : tie.Need-deliver-requires
+deliver-requires c κs = search needs
+
+same-length : tie.Need-same-length
+same-length c = search needs
+
+returns-2 : tie.Need-returns-2
+unfolding accepted
+returns-2 c =
+    let d = c .before .before in
+    let tp = d .before .before in
+    let i = tp .before .before in
+    let op = i .before .before in
+    let k = op .before .before .before in
+    let a = k .before .before .before .args in
+    let b : Bytes (a .«data» .now) = λ j. omega (arith, k .shared-slice-known3 .given j) in
+    let t = trimmed-opens (a .key .now) (a .id .now) (a .«data» .now) (a .code) b _ (op .open-des .ensures .number) (length (a .out .now)) (i .if1 .left) in
+    let m = op .open-des .ensures in
+    let pl = payloadOf (desPlain (a .key .now) (a .«data» .now)) in
+    let n : op .open-des .result .length ≡ length pl = m .length-is ∙ ap (λ (o : Outcome). length (o .bytes)) (t .0) in
+    let x : op .open-des .result .«transaction_number» ≡ numberOf (desPlain (a .key .now) (a .«data» .now)) = m .transaction ∙ ap (λ (o : Outcome). o .transaction) (t .0) in
+    let w = front pl (replicate 256 0) (op .open-des .last .1 .1 .1 .1 .0) _ (sym n) (m .output ∙ ap (λ (o : Outcome). over (o .bytes) (replicate 256 0)) (t .0)) in
+    let y : now (tp .trim-payload .result) ≡ trim pl = tp .trim-payload .ensures ∙ ap trim w in
+    rw (t .1) (rw y at (rw x at (d .deliver .ensures)))
+
+pub open-trimmed-des-spec : {M : Type 1} → statement M
+open-trimmed-des-spec =
+    tie.close
+    (tie.spec
+    slice-aggregate-open-des
+    open-des-requires
+    refused-requires
+    returns
+    array-share-prefix-work
+    slice-aggregate-trim-payload
+    trim-payload-requires
+    deliver-requires
+    same-length
+    returns-2)

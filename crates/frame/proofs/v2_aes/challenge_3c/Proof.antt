@@ -1,0 +1,31 @@
+use lib.ListN.{length, drop, length-drop}
+use lib.Seq.{take-all}
+use mathlib.Core.Path.{_∙_}
+use Prim.Native.Nat.{_-_}
+use native.Mathlib.Omega.{arith}
+use Rattle.frame.specs.AesFrame.{challenge3C}
+use borrow.Author.Needs.{needs}
+use Rattle.frame.proofs.v2_aes.challenge_3c.Statement.{statement}
+use Rattle.frame.proofs.v2_aes.challenge_3c.Tie as tie
+
+sub-four : tie.Need-sub-four
+sub-four c = search needs
+
+part-four-start : tie.Need-part-four-start
+part-four-start c = search needs
+
+part-four-end : tie.Need-part-four-end
+part-four-end c = search needs
+
+four-requires : tie.Need-four-requires
+four-requires c κs = search needs
+
+returns : tie.Need-returns
+unfolding challenge3C
+returns c =
+    let s = c .before .before .before .args .credentials .now in
+    c .four .ensures ∙ take-all (length s - 32) (drop 32 s) (omega (arith, length-drop 32 s))
+
+pub challenge-3c-spec : {M : Type 1} → statement M
+challenge-3c-spec =
+    tie.close (tie.spec sub-four part-four-start part-four-end four-requires returns)

@@ -1,0 +1,55 @@
+use mathlib.Core.Path.{sym, _∙_}
+use lib.ListN.{length}
+use Rattle.frame.proofs.AesOpens.{aes-open-passes, aes-open-refuses, aes-open-tries}
+use Rattle.frame.proofs.Decides.{meets-refused}
+use borrow.Author.Needs.{needs}
+use Rattle.frame.proofs.v2_aes.open_aes.Statement.{statement}
+use Rattle.frame.proofs.v2_aes.open_aes.Tie as tie
+
+guard-open-aes-requires : tie.Need-guard-open-aes-requires
+guard-open-aes-requires c κs = search needs
+
+refused-requires : tie.Need-refused-requires
+refused-requires c κs = search needs
+
+returns : tie.Need-returns
+returns c =
+    let i = c .before in
+    let g = i .before in
+    let a = g .before .before .before .before .before .args in
+    meets-refused _ _ _ (a .out .now) (aes-open-refuses (a .credentials .now) (a .id .now) (a .«data» .now) (a .code) (length (a .out .now)) _ (g .guard-open-aes .ensures) (i .if1 .taken)) (c .refused .ensures)
+
+six-requires : tie.Need-six-requires
+six-requires c κs = aes-open-passes _ _ _ (sym (c .if1 .left) ∙ c .before .guard-open-aes .ensures) .six
+
+decrypt-secure-response-v2-aes128-requires : tie.Need-decrypt-secure-response-v2-aes128-requires
+decrypt-secure-response-v2-aes128-requires c κs =
+    let i = c .before .before in
+    let p = aes-open-passes _ _ _ (sym (i .if1 .left) ∙ i .before .guard-open-aes .ensures) in
+    (p .all, (p .enough, p .short))
+
+same-length : tie.Need-same-length
+same-length c = search needs
+
+returns-2 : tie.Need-returns-2
+returns-2 c =
+    let d = c .before .before in
+    let s = d .before .before in
+    let i = s .before in
+    let g = i .before in
+    let a = g .before .before .before .before .before .args in
+    let z = sym (i .if1 .left) ∙ g .guard-open-aes .ensures in
+    rw (aes-open-tries (a .credentials .now) (a .id .now) (a .«data» .now) (a .code) (length (a .out .now)) z)
+    (rw (s .six .ensures) at (d .decrypt-secure-response-v2-aes128 .ensures))
+
+pub open-aes-spec : {M : Type 1} → statement M
+open-aes-spec =
+    tie.close
+    (tie.spec
+    guard-open-aes-requires
+    refused-requires
+    returns
+    six-requires
+    decrypt-secure-response-v2-aes128-requires
+    same-length
+    returns-2)

@@ -1,0 +1,82 @@
+-- Sealed DES data: number 2 (low byte first), ID 6, payload, padding, MAC 8; CBC, zero IV. Assumes nothing.
+use Prim.Native.Nat.{ℕ, _+_, _-_, _*_, _/_, _%_}
+use mathlib.Core.Bool.{Bool}
+use mathlib.Core.List.{List, [], _∷_, _++_}
+use lib.Dec.{eqb, ltb}
+use lib.ListN.{length, take, drop, getD, replicate}
+use Rattle.cipher.specs.Fips46.{desEncrypt, desDecrypt}
+use Rattle.cipher.specs.Fold.{underEach, underEachBack}
+use Rattle.cipher.specs.Sp80038a.{cbcEncrypt, cbcDecrypt}
+use Rattle.frame.specs.Outcome.{Outcome, refused, accepted, row, decide}
+use Rattle.frame.specs.Padding.{padCount, pad}
+use Rattle.frame.specs.Tests.{isnt, either, same}
+
+-- ---- the MAC
+
+-- what it starts as: total length, code, six zeros
+unfoldable pub macStart : ℕ → ℕ → List ℕ
+macStart total code = total % 256 ∷ code ∷ replicate 6 0
+
+-- each block of the plain text in turn is the DES key that encrypts it. The total length counts a length byte, the code and the MAC too
+unfoldable pub desMac : ℕ → List ℕ → List ℕ
+desMac code plain = underEach desEncrypt 8 plain (macStart (length plain + 10) code)
+
+-- what is recovered from a plain text with its MAC behind it
+unfoldable pub recovered : List ℕ → List ℕ
+recovered plain = underEachBack desDecrypt 8 (take (length plain - 8) plain) (drop (length plain - 8) plain)
+
+-- all eight recovered bytes are those that the MAC started as
+unfoldable pub macHolds : ℕ → List ℕ → Bool
+macHolds code plain = same (recovered plain) (macStart (length plain + 2) code)
+
+-- ---- sealing
+
+-- a plain text with its MAC, under the session key
+unfoldable pub desSeal : List ℕ → ℕ → List ℕ → List ℕ
+desSeal key code plain = cbcEncrypt (desEncrypt key) 8 (replicate 8 0) (plain ++ desMac code plain)
+
+unfoldable pub header : ℕ → List ℕ → List ℕ
+header number id = number % 256 ∷ number / 256 % 256 ∷ id
+
+-- the sealed data of a command or a response
+unfoldable pub desSealed : List ℕ → ℕ → ℕ → List ℕ → List ℕ → List ℕ
+desSealed key code number id payload = desSeal key code (pad (header number id ++ payload))
+
+-- its size, for a payload of n bytes
+unfoldable pub desSize : ℕ → ℕ
+desSize n = n + 8 + padCount (n + 8) + 8
+
+unfoldable pub desSealing : List ℕ → ℕ → ℕ → List ℕ → List ℕ → ℕ → Outcome
+desSealing key code number id payload room =
+    decide
+    (row 17 (either (isnt (eqb (length id) 6)) (isnt (eqb (length key) 8))) ∷ row 12 (ltb 232 (length payload)) ∷ row 16 (ltb room (desSize (length payload))) ∷ [])
+    (accepted 0 (desSealed key code number id payload))
+
+-- ---- opening
+
+unfoldable pub desPlain : List ℕ → List ℕ → List ℕ
+desPlain key sealed = cbcDecrypt (desDecrypt key) 8 (replicate 8 0) sealed
+
+-- number, ID and payload of a plain text with its MAC
+unfoldable pub numberOf : List ℕ → ℕ
+numberOf plain = getD plain 0 0 + getD plain 1 0 * 256
+
+unfoldable pub idOf : List ℕ → List ℕ
+idOf plain = take 6 (drop 2 plain)
+
+unfoldable pub payloadOf : List ℕ → List ℕ
+payloadOf plain = take (length plain - 16) (drop 8 plain)
+
+unfoldable pub desOpening : List ℕ → ℕ → List ℕ → List ℕ → ℕ → Outcome
+desOpening key code id sealed room =
+    let plain = desPlain key sealed in
+    decide
+    (row 17 (either (isnt (eqb (length id) 6)) (isnt (eqb (length key) 8)))
+    ∷ row 10 (isnt (eqb (length sealed % 8) 0))
+    ∷ row 11 (ltb (length sealed) 16)
+    ∷ row 12 (ltb 253 (length sealed))
+    ∷ row 13 (isnt (macHolds code plain))
+    ∷ row 14 (isnt (same (idOf plain) id))
+    ∷ row 16 (ltb room (length (payloadOf plain)))
+    ∷ [])
+    (accepted (numberOf plain) (payloadOf plain))

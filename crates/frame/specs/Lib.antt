@@ -1,0 +1,12 @@
+pub mod AesFrame
+pub mod AesSteps
+pub mod Authentication2
+pub mod Delivery
+pub mod DesFrame
+pub mod DesSteps
+pub mod Guards
+pub mod Outcome
+pub mod Package
+pub mod Padding
+pub mod Tests
+pub mod Trimmed

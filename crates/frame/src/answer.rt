@@ -1,0 +1,20 @@
+// What every operation answers.
+ghost use mathlib.Core.Path.{_≡_};
+ghost use mathlib.Core.List.{List};
+
+// number: 0, or that of the refusal; length: how many bytes were written. A refusal has 0 in both other fields.
+pub struct Answer {
+    pub number: u8,
+    pub length: usize,
+    pub transaction_number: u16,
+}
+
+pub(crate) fn refused(number: u8) -> Answer
+    ensures { λ r. ⌜ (r .number ≡ number) × (r .length ≡ 0) × (r .«transaction_number» ≡ 0) ⌝ }
+{
+    Answer {
+        number,
+        length: 0,
+        transaction_number: 0,
+    }
+}

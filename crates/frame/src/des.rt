@@ -1,0 +1,447 @@
+// Secure messaging over DES: Authentication 2, opening, the MAC, sealing, registration packages (des.rs, in its order).
+use crate::answer;
+use crate::answer::Answer;
+use crate::deliver;
+use crate::fixed;
+ghost use mathlib.Core.Path.{_≡_};
+ghost use Prim.Native.Nat.{_+_, _-_, _%_, _≤_};
+ghost use lib.ListN.{length, take};
+ghost use Rattle.frame.specs.Outcome.{Meets, over};
+ghost use Rattle.frame.specs.Padding.{padCount, pad};
+ghost use Rattle.frame.specs.DesFrame.{macStart, desMac, macHolds, desSeal, header, desSealed, desSize, desSealing, desPlain, numberOf, desOpening};
+ghost use Rattle.frame.specs.Guards.{firstOf};
+ghost use Rattle.frame.specs.DesSteps.{sealRows, openRows, plainRows, desAccepting};
+ghost use Rattle.frame.specs.Authentication2.{auth2SealRows, auth2Sealing, auth2OpenRows, auth2Accepting, auth2Opening};
+ghost use Rattle.frame.specs.Trimmed.{trimCount, trim, trimmedOpening};
+ghost use Rattle.frame.specs.Package.{packageCipher, packageMac, packaged, packageRows, packaging};
+
+const AUTHENTICATION2_CODE: u8 = 0x13;
+
+// Decrypts data over the front of work.
+fn decrypt_over(key: [u8; 8], data: &[u8], work: &mut [u8])
+    requires { ⌜ length (now «data») % 8 ≡ 0 ⌝ }
+    requires { ⌜ length (now «data») ≤ length (now work) ⌝ }
+    ensures { λ _. ⌜ (length (desPlain key (now («data» .entry))) ≡ length (now («data» .entry))) × (now (work .exit) ≡ over (desPlain key (now («data» .entry))) (now (work .entry))) ⌝ }
+{
+    let n = data.len();
+    cipher::copy(data, work);
+    cipher::decrypt_des_cbc_zero_iv(&mut work[..n], key);
+}
+
+// 17, 10 and 12 of opening an Authentication 2 response; 0 to go on.
+fn guard_authentication2_open(key_len: usize, data_len: usize) -> u8
+    ensures { λ r. ⌜ r ≡ firstOf (auth2OpenRows «key_len» «data_len») ⌝ }
+{
+    if key_len != 8 {
+        return 17;
+    }
+    if data_len % 8 != 0 {
+        return 10;
+    }
+    if 253 < data_len {
+        return 12;
+    }
+    0
+}
+
+// Opens the plain text of an Authentication 2 response: all but the MAC goes out.
+fn accept_authentication2(plain: &[u8], out: &mut [u8]) -> Answer
+    ensures { λ r. ⌜ Meets (auth2Accepting (now (plain .entry)) (length (now (out .entry)))) r (now (out .entry)) (now (out .exit)) ⌝ }
+{
+    if plain.len() < 16 {
+        return answer::refused(13);
+    }
+    if !check_packet_mac_des(plain, AUTHENTICATION2_CODE) {
+        return answer::refused(13);
+    }
+    deliver::deliver(0, strip_des_response_mac(plain), out)
+}
+
+// Opens an Authentication 2 response; header and padding stay.
+pub fn decrypt_authentication2_payload(key: &[u8], data: &[u8], out: &mut [u8]) -> Answer
+    ensures { λ r. ⌜ Meets (auth2Opening (now (key .entry)) (now («data» .entry)) (length (now (out .entry)))) r (now (out .entry)) (now (out .exit)) ⌝ }
+{
+    let n = data.len();
+    let refusal = guard_authentication2_open(key.len(), n);
+    if refusal != 0 {
+        return answer::refused(refusal);
+    }
+    let mut work = [0u8; 256];
+    decrypt_over(fixed::eight(key), data, &mut work);
+    accept_authentication2(&work[..n], out)
+}
+
+// 17, 12 and 16 of sealing an Authentication 2 payload; 0 to go on.
+fn guard_authentication2_seal(key_len: usize, payload_len: usize, room: usize) -> u8
+    ensures { λ r. ⌜ r ≡ firstOf (auth2SealRows «key_len» «payload_len» room) ⌝ }
+{
+    if key_len != 8 {
+        return 17;
+    }
+    if 240 < payload_len {
+        return 12;
+    }
+    if room < payload_len + pad_count(payload_len) + 8 {
+        return 16;
+    }
+    0
+}
+
+// Seals an Authentication 2 payload, to which no header is added.
+pub fn encrypt_authentication2_payload(key: &[u8], payload: &[u8], out: &mut [u8]) -> Answer
+    ensures { λ r. ⌜ Meets (auth2Sealing (now (key .entry)) (now (payload .entry)) (length (now (out .entry)))) r (now (out .entry)) (now (out .exit)) ⌝ }
+{
+    let n = payload.len();
+    let refusal = guard_authentication2_seal(key.len(), n, out.len());
+    if refusal != 0 {
+        return answer::refused(refusal);
+    }
+    cipher::copy(payload, out);
+    let length = seal_front(AUTHENTICATION2_CODE, fixed::eight(key), out, n);
+    Answer {
+        number: 0,
+        length,
+        transaction_number: 0,
+    }
+}
+
+fn wide(x: u8) -> u16
+    ensures { λ r. ⌜ (r ≡ x) × (r ≤ 255) ⌝ }
+{
+    x as u16
+}
+
+fn transaction_number(plain: &[u8]) -> u16
+    requires { ⌜ 2 ≤ length (now plain) ⌝ }
+    ensures { λ r. ⌜ r ≡ numberOf (now (plain .entry)) ⌝ }
+{
+    wide(plain[0]) + wide(plain[1]) * 256
+}
+
+// 13 and 14 of opening; 0 to go on.
+fn check_plain_des(code: u8, id: &[u8], plain: &[u8]) -> u8
+    requires { ⌜ 8 ≤ length (now plain) ⌝ }
+    ensures { λ r. ⌜ r ≡ firstOf (plainRows code (now (id .entry)) (now (plain .entry))) ⌝ }
+{
+    if !check_packet_mac_des(plain, code) {
+        return 13;
+    }
+    if !cipher::ct_eq(&plain[2..8], id) {
+        return 14;
+    }
+    0
+}
+
+// Opens a plain text that ends with its MAC.
+fn accept_des(code: u8, id: &[u8], plain: &[u8], out: &mut [u8]) -> Answer
+    requires { ⌜ 16 ≤ length (now plain) ⌝ }
+    ensures { λ r. ⌜ Meets (desAccepting code (now (id .entry)) (now (plain .entry)) (length (now (out .entry)))) r (now (out .entry)) (now (out .exit)) ⌝ }
+{
+    let refusal = check_plain_des(code, id, plain);
+    if refusal != 0 {
+        return answer::refused(refusal);
+    }
+    let payload = strip_des_response_mac(&plain[8..]);
+    deliver::deliver(transaction_number(plain), payload, out)
+}
+
+// 17, 10, 11 and 12 of opening; 0 to go on.
+fn guard_open_des(id_len: usize, key_len: usize, data_len: usize) -> u8
+    ensures { λ r. ⌜ r ≡ firstOf (openRows «id_len» «key_len» «data_len») ⌝ }
+{
+    if id_len != 6 {
+        return 17;
+    }
+    if key_len != 8 {
+        return 17;
+    }
+    if data_len % 8 != 0 {
+        return 10;
+    }
+    if data_len < 16 {
+        return 11;
+    }
+    if 253 < data_len {
+        return 12;
+    }
+    0
+}
+
+// Opens a sealed command or response. The trial plain text stands in a work block, so that a refusal shows none of it.
+pub fn open_des(code: u8, id: &[u8], key: &[u8], data: &[u8], out: &mut [u8]) -> Answer
+    ensures { λ r. ⌜ Meets (desOpening (now (key .entry)) code (now (id .entry)) (now («data» .entry)) (length (now (out .entry)))) r (now (out .entry)) (now (out .exit)) ⌝ }
+{
+    let n = data.len();
+    let refusal = guard_open_des(id.len(), key.len(), n);
+    if refusal != 0 {
+        return answer::refused(refusal);
+    }
+    let mut work = [0u8; 256];
+    decrypt_over(fixed::eight(key), data, &mut work);
+    accept_des(code, id, &work[..n], out)
+}
+
+// How many bytes a last byte v drops.
+fn trim_count(v: u8) -> usize
+    ensures { λ r. ⌜ r ≡ trimCount v ⌝ }
+{
+    if v < 1 {
+        return 0;
+    }
+    if 7 < v {
+        return 0;
+    }
+    v as usize
+}
+
+// A payload without the padding that its last byte tells of.
+fn trim_payload(payload: &[u8]) -> &[u8]
+    ensures { λ r. ⌜ now r ≡ trim (now (payload .entry)) ⌝ }
+{
+    let n = payload.len();
+    if n < 1 {
+        return &payload[..0];
+    }
+    let count = trim_count(payload[n - 1]);
+    if n < count {
+        return &payload[..0];
+    }
+    let end = n - count;
+    &payload[..end]
+}
+
+// Opens as open_des does, and trims the payload.
+pub fn open_trimmed_des(code: u8, id: &[u8], key: &[u8], data: &[u8], out: &mut [u8]) -> Answer
+    ensures { λ r. ⌜ Meets (trimmedOpening (now (key .entry)) code (now (id .entry)) (now («data» .entry)) (length (now (out .entry)))) r (now (out .entry)) (now (out .exit)) ⌝ }
+{
+    let mut work = [0u8; 256];
+    let opened = open_des(code, id, key, data, &mut work);
+    let refusal = opened.number;
+    if refusal != 0 {
+        return answer::refused(refusal);
+    }
+    let n = opened.length;
+    let payload = trim_payload(&work[..n]);
+    deliver::deliver(opened.transaction_number, payload, out)
+}
+
+// A payload without the MAC that follows it.
+fn strip_des_response_mac(payload_with_mac: &[u8]) -> &[u8]
+    requires { ⌜ 8 ≤ length (now «payload_with_mac») ⌝ }
+    ensures { λ r. ⌜ now r ≡ take (length (now («payload_with_mac» .entry)) - 8) (now («payload_with_mac» .entry)) ⌝ }
+{
+    let end = payload_with_mac.len() - 8;
+    &payload_with_mac[..end]
+}
+
+// What a MAC starts as.
+fn mac_start(total: usize, code: u8) -> [u8; 8]
+    ensures { λ r. ⌜ r ≡ macStart total code ⌝ }
+{
+    [(total % 256) as u8, code, 0, 0, 0, 0, 0, 0]
+}
+
+// The MAC of a plain text of whole blocks.
+pub(crate) fn calculate_command_mac_des(command_code: u8, plain: &[u8]) -> [u8; 8]
+    ensures { λ r. ⌜ r ≡ desMac «command_code» (now (plain .entry)) ⌝ }
+{
+    let start = mac_start(plain.len() + 10, command_code);
+    cipher::encrypt_des_under_each(start, plain)
+}
+
+// Whether a plain text ends with its MAC. All eight bytes of the MAC's start are recovered and compared.
+pub(crate) fn check_packet_mac_des(plain: &[u8], code: u8) -> bool
+    requires { ⌜ 8 ≤ length (now plain) ⌝ }
+    ensures { λ r. ⌜ r ≡ macHolds code (now (plain .entry)) ⌝ }
+{
+    let end = plain.len() - 8;
+    let mac = fixed::eight(&plain[end..]);
+    let recovered = cipher::decrypt_des_under_each(mac, &plain[..end]);
+    let start = mac_start(plain.len() + 2, code);
+    cipher::ct_eq(&recovered, &start)
+}
+
+// How many bytes of padding n bytes gain.
+fn pad_count(n: usize) -> usize
+    ensures { λ r. ⌜ r ≡ padCount n ⌝ }
+{
+    (8 - n % 8) % 8
+}
+
+// Pads the first len bytes of out in place, and answers how many they are then.
+fn pad_to_des_block_size(out: &mut [u8], len: usize) -> usize
+    requires { ⌜ len + padCount len ≤ length (now out) ⌝ }
+    ensures { λ r. ⌜ (r ≡ len + padCount len) × (now (out .exit) ≡ over (pad (take len (now (out .entry)))) (now (out .entry))) ⌝ }
+{
+    let count = pad_count(len);
+    let end = len + count;
+    cipher::fill(&mut out[len..end], count as u8);
+    end
+}
+
+// Seals the first len bytes of out in place: padding, MAC, encryption. Answers how many bytes they are then.
+fn seal_front(code: u8, key: [u8; 8], out: &mut [u8], len: usize) -> usize
+    requires { ⌜ len + padCount len + 8 ≤ length (now out) ⌝ }
+    ensures { λ r. ⌜ (r ≡ len + padCount len + 8) × (r ≡ length (desSeal key code (pad (take len (now (out .entry)))))) × (now (out .exit) ≡ over (desSeal key code (pad (take len (now (out .entry))))) (now (out .entry))) ⌝ }
+{
+    let end = pad_to_des_block_size(out, len);
+    let mac = calculate_command_mac_des(code, &out[..end]);
+    let size = end + 8;
+    cipher::copy(&mac, &mut out[end..size]);
+    cipher::encrypt_des_cbc_zero_iv(&mut out[..size], key);
+    size
+}
+
+// Writes number and ID over the front of out.
+fn write_header(number: u16, id: [u8; 6], out: &mut [u8])
+    requires { ⌜ 8 ≤ length (now out) ⌝ }
+    ensures { λ _. ⌜ now (out .exit) ≡ over (header number id) (now (out .entry)) ⌝ }
+{
+    out[0] = (number % 256) as u8;
+    out[1] = (number / 256 % 256) as u8;
+    cipher::copy(&id, &mut out[2..8]);
+}
+
+// The size of a sealed payload of n bytes.
+fn size_des(n: usize) -> usize
+    requires { ⌜ n ≤ 232 ⌝ }
+    ensures { λ r. ⌜ r ≡ desSize n ⌝ }
+{
+    let len = n + 8;
+    len + pad_count(len) + 8
+}
+
+// Writes a sealed payload over the front of out, and answers its size. All work is done in out.
+fn write_des(
+    code: u8,
+    number: u16,
+    id: [u8; 6],
+    key: [u8; 8],
+    payload: &[u8],
+    out: &mut [u8],
+) -> usize
+    requires { ⌜ length (now payload) ≤ 232 ⌝ }
+    requires { ⌜ desSize (length (now payload)) ≤ length (now out) ⌝ }
+    ensures { λ r. ⌜ (r ≡ desSize (length (now (payload .entry)))) × (r ≡ length (desSealed key code number id (now (payload .entry)))) × (now (out .exit) ≡ over (desSealed key code number id (now (payload .entry))) (now (out .entry))) ⌝ }
+{
+    write_header(number, id, out);
+    cipher::copy(payload, &mut out[8..]);
+    seal_front(code, key, out, payload.len() + 8)
+}
+
+// 17, 12 and 16 of sealing; 0 to go on.
+fn guard_seal_des(id_len: usize, key_len: usize, payload_len: usize, room: usize) -> u8
+    ensures { λ r. ⌜ r ≡ firstOf (sealRows «id_len» «key_len» «payload_len» room) ⌝ }
+{
+    if id_len != 6 {
+        return 17;
+    }
+    if key_len != 8 {
+        return 17;
+    }
+    if 232 < payload_len {
+        return 12;
+    }
+    if room < size_des(payload_len) {
+        return 16;
+    }
+    0
+}
+
+// Seals a command or a response with its transaction number and ID under the session key.
+pub fn seal_des(
+    code: u8,
+    number: u16,
+    id: &[u8],
+    key: &[u8],
+    payload: &[u8],
+    out: &mut [u8],
+) -> Answer
+    ensures { λ r. ⌜ Meets (desSealing (now (key .entry)) code number (now (id .entry)) (now (payload .entry)) (length (now (out .entry)))) r (now (out .entry)) (now (out .exit)) ⌝ }
+{
+    let refusal = guard_seal_des(id.len(), key.len(), payload.len(), out.len());
+    if refusal != 0 {
+        return answer::refused(refusal);
+    }
+    let length = write_des(
+        code,
+        number,
+        fixed::six(id),
+        fixed::eight(key),
+        payload,
+        out,
+    );
+    Answer {
+        number: 0,
+        length,
+        transaction_number: 0,
+    }
+}
+
+// 17, 10, 12 and 16 of a registration package; 0 to go on.
+fn guard_package(key_len: usize, plain_len: usize, room: usize) -> u8
+    ensures { λ r. ⌜ r ≡ firstOf (packageRows «key_len» «plain_len» room) ⌝ }
+{
+    if key_len != 8 {
+        return 17;
+    }
+    if plain_len == 0 {
+        return 10;
+    }
+    if plain_len % 8 != 0 {
+        return 10;
+    }
+    if 4096 < plain_len {
+        return 12;
+    }
+    if room < plain_len + 8 {
+        return 16;
+    }
+    0
+}
+
+// The last CBC block under the complemented key. out holds the cipher text meanwhile.
+fn package_mac(key: [u8; 8], plain: &[u8], out: &mut [u8]) -> [u8; 8]
+    requires { ⌜ length (now plain) % 8 ≡ 0 ⌝ }
+    requires { ⌜ 8 ≤ length (now plain) ⌝ }
+    requires { ⌜ length (now plain) ≤ length (now out) ⌝ }
+    ensures { λ r. ⌜ (r ≡ packageMac key (now (plain .entry))) × (length (packageCipher key (now (plain .entry))) ≡ length (now (plain .entry))) × (now (out .exit) ≡ over (packageCipher key (now (plain .entry))) (now (out .entry))) ⌝ }
+{
+    let n = plain.len();
+    cipher::copy(plain, out);
+    cipher::encrypt_des_cbc_zero_iv(&mut out[..n], cipher::xor_blocks(key, [255u8; 8]));
+    let start = n - 8;
+    fixed::eight(&out[start..n])
+}
+
+// Writes a registration package over the front of out, and answers its size.
+fn write_package(key: [u8; 8], plain: &[u8], out: &mut [u8]) -> usize
+    requires { ⌜ length (now plain) % 8 ≡ 0 ⌝ }
+    requires { ⌜ 8 ≤ length (now plain) ⌝ }
+    requires { ⌜ length (now plain) + 8 ≤ length (now out) ⌝ }
+    ensures { λ r. ⌜ (r ≡ length (packaged key (now (plain .entry)))) × (now (out .exit) ≡ over (packaged key (now (plain .entry))) (now (out .entry))) ⌝ }
+{
+    let n = plain.len();
+    let size = n + 8;
+    let mac = package_mac(key, plain, out);
+    cipher::copy(plain, out);
+    cipher::copy(&mac, &mut out[n..size]);
+    cipher::encrypt_des_cbc_zero_iv(&mut out[..size], key);
+    size
+}
+
+// The registration package of a plain package under the package key.
+pub fn generate_registration_package_des(key: &[u8], plain: &[u8], out: &mut [u8]) -> Answer
+    ensures { λ r. ⌜ Meets (packaging (now (key .entry)) (now (plain .entry)) (length (now (out .entry)))) r (now (out .entry)) (now (out .exit)) ⌝ }
+{
+    let refusal = guard_package(key.len(), plain.len(), out.len());
+    if refusal != 0 {
+        return answer::refused(refusal);
+    }
+    let length = write_package(fixed::eight(key), plain, out);
+    Answer {
+        number: 0,
+        length,
+        transaction_number: 0,
+    }
+}

@@ -1,0 +1,17 @@
+// Sealed frames of the FeliCa secure session: the sealing and opening of commands and responses in both schemes, Authentication 2 and
+// registration packages for DES. No public function asks anything of its caller; a refusal has a number and writes nothing.
+mod answer;
+mod deliver;
+mod des;
+mod fixed;
+mod v2_aes;
+
+pub use answer::Answer;
+pub use des::decrypt_authentication2_payload;
+pub use des::encrypt_authentication2_payload;
+pub use des::generate_registration_package_des;
+pub use des::open_des;
+pub use des::open_trimmed_des;
+pub use des::seal_des;
+pub use v2_aes::open_aes;
+pub use v2_aes::seal_aes;

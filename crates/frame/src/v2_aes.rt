@@ -1,0 +1,220 @@
+// Sealed AES data: number, cipher payload, cipher MAC.
+use crate::answer;
+use crate::answer::Answer;
+use crate::deliver;
+use crate::fixed;
+ghost use mathlib.Core.Path.{_≡_};
+ghost use Prim.Native.Nat.{_+_, _*_, _≤_};
+ghost use lib.ListN.{length};
+ghost use Rattle.frame.specs.Outcome.{Meets, over};
+ghost use Rattle.frame.specs.Guards.{firstOf};
+ghost use Rattle.frame.specs.AesSteps.{aesSealRows, aesOpenRows, aesAccepting, aesTrying};
+ghost use Rattle.frame.specs.AesFrame.{cipherKey, macKey, challenge3C, aesIv, aesMac, aesSealed, aesSize, aesSealing, aesOpening};
+
+// ---- the parts of the credentials
+
+fn cipher_key(credentials: &[u8]) -> [u8; 16]
+    requires { ⌜ length (now credentials) ≡ 36 ⌝ }
+    ensures { λ r. ⌜ r ≡ cipherKey (now (credentials .entry)) ⌝ }
+{
+    fixed::sixteen(&credentials[0..16])
+}
+
+fn mac_key(credentials: &[u8]) -> [u8; 16]
+    requires { ⌜ length (now credentials) ≡ 36 ⌝ }
+    ensures { λ r. ⌜ r ≡ macKey (now (credentials .entry)) ⌝ }
+{
+    fixed::sixteen(&credentials[16..32])
+}
+
+fn challenge_3c(credentials: &[u8]) -> [u8; 4]
+    requires { ⌜ length (now credentials) ≡ 36 ⌝ }
+    ensures { λ r. ⌜ r ≡ challenge3C (now (credentials .entry)) ⌝ }
+{
+    fixed::four(&credentials[32..])
+}
+
+// ---- IV and MAC
+
+// Byte 0 of Challenge 3C plays no part.
+fn build_initial_vector_v2_aes128(
+    payload_length: usize,
+    code: u8,
+    counter_bytes: [u8; 2],
+    transaction_id: [u8; 6],
+    challenge_3c: [u8; 4],
+) -> [u8; 16]
+    requires { ⌜ «payload_length» ≤ 243 ⌝ }
+    ensures { λ r. ⌜ r ≡ aesIv «payload_length» code «counter_bytes» «transaction_id» «challenge_3c» ⌝ }
+{
+    let mut iv = [0u8; 16];
+    iv[0] = 0x01;
+    iv[1] = (payload_length + 12) as u8;
+    iv[2] = code;
+    cipher::copy(&counter_bytes, &mut iv[3..5]);
+    cipher::copy(&transaction_id, &mut iv[5..11]);
+    cipher::copy(&challenge_3c[1..4], &mut iv[11..14]);
+    iv
+}
+
+// The block in front of the payload is 19, IV bytes 1..13 and the payload's length, high byte first.
+fn calculate_mac_v2_aes128(iv: [u8; 16], payload: &[u8], mac_key: [u8; 16]) -> [u8; 8]
+    ensures { λ r. ⌜ r ≡ aesMac «mac_key» iv (now (payload .entry)) ⌝ }
+{
+    let n = payload.len();
+    let mut b0 = iv;
+    b0[0] = 0x19;
+    b0[14] = (n / 256 % 256) as u8;
+    b0[15] = (n % 256) as u8;
+    let full = cipher::aes128_cmac_after_block(b0, payload, mac_key);
+    fixed::eight(&full[0..8])
+}
+
+// ---- sealing
+
+// Writes the sealed data over the front of out, and answers its size. The payload is encrypted in out, and its MAC from the next block on.
+pub(crate) fn write_aes(
+    code: u8,
+    number: u16,
+    id: [u8; 6],
+    credentials: &[u8],
+    payload: &[u8],
+    out: &mut [u8],
+) -> usize
+    requires { ⌜ length (now credentials) ≡ 36 ⌝ }
+    requires { ⌜ length (now payload) ≤ 243 ⌝ }
+    requires { ⌜ aesSize (length (now payload)) ≤ length (now out) ⌝ }
+    ensures { λ r. ⌜ r ≡ aesSize (length (now (payload .entry))) ⌝ }
+    ensures { λ r. ⌜ r ≡ length (aesSealed (now (credentials .entry)) code number id (now (payload .entry))) ⌝ }
+    ensures { λ r. ⌜ now (out .exit) ≡ over (aesSealed (now (credentials .entry)) code number id (now (payload .entry))) (now (out .entry)) ⌝ }
+{
+    let n = payload.len();
+    let end = n + 2;
+    let size = n + 10;
+    let counter_bytes = [(number % 256) as u8, (number / 256 % 256) as u8];
+    let iv = build_initial_vector_v2_aes128(n, code, counter_bytes, id, challenge_3c(credentials));
+    let mut mac = calculate_mac_v2_aes128(iv, payload, mac_key(credentials));
+    cipher::copy(&counter_bytes, out);
+    cipher::copy(payload, &mut out[2..end]);
+    cipher::apply_aes128_ofb_parts(&mut out[2..end], &mut mac, cipher_key(credentials), iv);
+    cipher::copy(&mac, &mut out[end..size]);
+    size
+}
+
+// 17, 12 and 16 of sealing, from lengths; 0 to go on.
+fn guard_seal_aes(id: usize, credentials: usize, payload: usize, room: usize) -> u8
+    ensures { λ r. ⌜ r ≡ firstOf (aesSealRows id credentials payload room) ⌝ }
+{
+    if id != 6 {
+        return 17;
+    }
+    if credentials != 36 {
+        return 17;
+    }
+    if 243 < payload {
+        return 12;
+    }
+    if room < payload + 10 {
+        return 16;
+    }
+    0
+}
+
+// Seals a command or a response. The credentials are cipher key, MAC key and Challenge 3C.
+pub fn seal_aes(
+    code: u8,
+    number: u16,
+    id: &[u8],
+    credentials: &[u8],
+    payload: &[u8],
+    out: &mut [u8],
+) -> Answer
+    ensures { λ r. ⌜ Meets (aesSealing (now (credentials .entry)) code number (now (id .entry)) (now (payload .entry)) (length (now (out .entry)))) r (now (out .entry)) (now (out .exit)) ⌝ }
+{
+    let refusal = guard_seal_aes(id.len(), credentials.len(), payload.len(), out.len());
+    if refusal != 0 {
+        return answer::refused(refusal);
+    }
+    let length = write_aes(code, number, fixed::six(id), credentials, payload, out);
+    Answer {
+        number: 0,
+        length,
+        transaction_number: 0,
+    }
+}
+
+// ---- opening
+
+fn transaction_number(low: u8, high: u8) -> u16
+    ensures { λ r. ⌜ r ≡ low + high * 256 ⌝ }
+{
+    low as u16 + high as u16 * 256
+}
+
+// 13, else payload goes out. All bytes of the MACs are compared.
+fn accept_aes(number: u16, mac: [u8; 8], wanted: [u8; 8], payload: &[u8], out: &mut [u8]) -> Answer
+    ensures { λ r. ⌜ Meets (aesAccepting number mac wanted (now (payload .entry)) (length (now (out .entry)))) r (now (out .entry)) (now (out .exit)) ⌝ }
+{
+    if !cipher::ct_eq(&mac, &wanted) {
+        return answer::refused(13);
+    }
+    deliver::deliver(number, payload, out)
+}
+
+// Decrypts data in a work block, so that a refusal shows nothing of it.
+pub(crate) fn decrypt_secure_response_v2_aes128(
+    code: u8,
+    id: [u8; 6],
+    credentials: &[u8],
+    data: &[u8],
+    out: &mut [u8],
+) -> Answer
+    requires { ⌜ length (now credentials) ≡ 36 ⌝ }
+    requires { ⌜ 10 ≤ length (now «data») ⌝ }
+    requires { ⌜ length (now «data») ≤ 253 ⌝ }
+    ensures { λ r. ⌜ Meets (aesTrying (now (credentials .entry)) code id (now («data» .entry)) (length (now (out .entry)))) r (now (out .entry)) (now (out .exit)) ⌝ }
+{
+    let n = data.len() - 10;
+    let end = n + 2;
+    let low = data[0];
+    let high = data[1];
+    let number = transaction_number(low, high);
+    let iv = build_initial_vector_v2_aes128(n, code, [low, high], id, challenge_3c(credentials));
+    let mut work = [0u8; 256];
+    cipher::copy(&data[2..end], &mut work);
+    let mut mac = fixed::eight(&data[end..]);
+    cipher::apply_aes128_ofb_parts(&mut work[..n], &mut mac, cipher_key(credentials), iv);
+    let payload = &work[..n];
+    let wanted = calculate_mac_v2_aes128(iv, payload, mac_key(credentials));
+    accept_aes(number, mac, wanted, payload, out)
+}
+
+// 17, 11 and 12 of opening, from lengths; 0 to go on.
+fn guard_open_aes(id: usize, credentials: usize, sealed: usize) -> u8
+    ensures { λ r. ⌜ r ≡ firstOf (aesOpenRows id credentials sealed) ⌝ }
+{
+    if id != 6 {
+        return 17;
+    }
+    if credentials != 36 {
+        return 17;
+    }
+    if sealed < 10 {
+        return 11;
+    }
+    if 253 < sealed {
+        return 12;
+    }
+    0
+}
+
+// Opens a command or a response. The credentials are those of sealing.
+pub fn open_aes(code: u8, id: &[u8], credentials: &[u8], data: &[u8], out: &mut [u8]) -> Answer
+    ensures { λ r. ⌜ Meets (aesOpening (now (credentials .entry)) code (now (id .entry)) (now («data» .entry)) (length (now (out .entry)))) r (now (out .entry)) (now (out .exit)) ⌝ }
+{
+    let refusal = guard_open_aes(id.len(), credentials.len(), data.len());
+    if refusal != 0 {
+        return answer::refused(refusal);
+    }
+    decrypt_secure_response_v2_aes128(code, fixed::six(id), credentials, data, out)
+}
