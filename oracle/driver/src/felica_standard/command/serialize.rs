@@ -1,0 +1,1 @@
+//! A stub: command/mod.rs takes no name from its module `serialize`.

@@ -1,0 +1,1 @@
+//! A stub: command/mod.rs has this module under `cfg(test)`.
