@@ -1,7 +1,7 @@
 -- The rounds of the cipher on four words, from what the calls in a turn of the code ensure. Assumes nothing.
 use mathlib.Core.Path.{_≡_, refl, sym, ap, ap₂, _∙_}
 use mathlib.Core.List.{List, [], _∷_, map}
-use Prim.Native.Nat.{ℕ, suc, _+_, _-_, _*_, _≤_, _<_}
+use Prim.Native.Nat.{ℕ, _+_, _-_, _*_, _≤_, _<_}
 use native.Mathlib.Numerals.{add-one}
 use native.Mathlib.Omega.{arith}
 use lib.ListN.{length, getD}
@@ -43,22 +43,23 @@ module _ (a b c d e f g h : ℕ) where
   unfolding wordsBytes wordBytes diagonal subBytes shiftRows cell tab mixColumns mixedColumn mixed
   mixed-made p q r s = words-of e f g h p q r s
 
-pub rounds-none : (ws x block : List ℕ) → 4 ≤ length ws → wordsBytes x ≡ block → wordsBytes (x ⊕ keyAt ws 0) ≡ rounds (wordsBytes ws) block 0
-unfolding rounds
-rounds-none ws x block h p = add-key ws x block 0 0 refl h p
+-- a round key added to equal states
+pub added-to : (s t k r : List ℕ) → r ≡ addRoundKey s k → s ≡ t → r ≡ addRoundKey t k
+added-to s t k r e p = e ∙ ap (λ (x : List ℕ). addRoundKey x k) p
 
-pub rounds-more : (ws x s block : List ℕ) (n : ℕ) → 4 * n + 4 + 4 ≤ length ws → s ≡ rounds (wordsBytes ws) block n
-    → wordsBytes x ≡ mixColumns (shiftRows (subBytes s)) → wordsBytes (x ⊕ keyAt ws (4 * n + 4)) ≡ rounds (wordsBytes ws) block (n + 1)
-unfolding rounds
-rounds-more ws x s block n h e p =
-    rw (add-one n) (add-key ws x (mixColumns (shiftRows (subBytes (rounds (wordsBytes ws) block n)))) (suc n) (4 * n + 4) (omega arith) h
-    (p ∙ ap (λ (l : List ℕ). mixColumns (shiftRows (subBytes l))) e))
+module _ (w k r : List ℕ) where
+  pub rounds-none : (s block : List ℕ) → s ≡ block → k ≡ roundKey w 0 → r ≡ addRoundKey s k → r ≡ rounds w block 0
+  unfolding rounds
+  rounds-none s block q p e = added-to s block k r e q ∙ ap (addRoundKey block) p
 
-pub rounds-done : (ws x s block : List ℕ) → 44 ≤ length ws → s ≡ rounds (wordsBytes ws) block 9
-    → wordsBytes x ≡ shiftRows (subBytes s) → wordsBytes (x ⊕ keyAt ws 40) ≡ cipher (wordsBytes ws) block
-unfolding cipher
-rounds-done ws x s block h e p =
-    add-key ws x (shiftRows (subBytes (rounds (wordsBytes ws) block 9))) 10 40 refl h (p ∙ ap (λ (l : List ℕ). shiftRows (subBytes l)) e)
+  pub rounds-more : (s block : List ℕ) (n : ℕ) → s ≡ rounds w block n → k ≡ roundKey w (n + 1) → r ≡ addRoundKey (mixColumns (shiftRows (subBytes s))) k
+      → r ≡ rounds w block (n + 1)
+  unfolding rounds
+  rounds-more s block n q p e = e ∙ rw (add-one n) (ap₂ (λ (t j : List ℕ). addRoundKey (mixColumns (shiftRows (subBytes t))) j) q (rw (add-one n) at p))
+
+  pub rounds-done : (s t block : List ℕ) → s ≡ rounds w block 9 → t ≡ shiftRows (subBytes s) → k ≡ roundKey w 10 → r ≡ addRoundKey t k → r ≡ cipher w block
+  unfolding cipher
+  rounds-done s t block q h p e = e ∙ ap₂ addRoundKey (h ∙ ap (λ (l : List ℕ). shiftRows (subBytes l)) q) p
 
 -- ---- the inverse cipher
 

@@ -1,12 +1,12 @@
 // AES-128 of FIPS 197, one block each way. The state is four words, one for each of its columns, row 0 highest.
 ghost use mathlib.Core.Path.{_≡_};
 ghost use mathlib.Core.List.{[], _∷_, map};
-ghost use Prim.Native.Nat.{ℕ};
+ghost use Prim.Native.Nat.{ℕ, _<_};
 ghost use lib.ListN.{length};
 ghost use Rattle.cipher.specs.Bytes.{_⊕_, wordBytes, wordsBytes};
-ghost use Rattle.cipher.specs.Fips197;
-ghost use Rattle.cipher.specs.Fips197.{sBox, invSBox, rotWord, keyExpansion, cipher, invRounds, invCipher, aesEncrypt, aesDecrypt};
-ghost use Rattle.cipher.specs.AesTables.{diagonal, rotRight, mixedColumn, MixTable, TeTable, UTable, InvSTable};
+ghost use Rattle.cipher.specs.Fips197.{xtime, sBox, subBytes, shiftRows, mixColumns, addRoundKey, rotWord, keyExpansion, roundKey, cipher};
+ghost use Rattle.cipher.specs.Fips197.{invSBox, invRounds, invCipher, aesEncrypt, aesDecrypt};
+ghost use Rattle.cipher.specs.AesTables.{diagonal, rotRight, mixedColumn, NextKey, MixTable, TeTable, UTable, InvSTable};
 
 // A state, or four words of the key schedule.
 pub(crate) struct Columns {
@@ -104,31 +104,46 @@ fn substituted(te: &[u32], a: u32, b: u32, c: u32, d: u32) -> u32
         + s / 0x100 % 0x100
 }
 
-// The state after the nine rounds with MixColumns.
-fn rounds(te: &[u32], w: &[u32], block: [u8; 16]) -> Columns
-    requires { ⌜ TeTable (now te) ⌝ }
-    requires { ⌜ length (now w) ≡ 44 ⌝ }
-    ensures { λ r. ⌜ wordsBytes (r .a ∷ r .b ∷ r .c ∷ r .d ∷ []) ≡ Fips197.rounds (wordsBytes (now (w .entry))) block 9 ⌝ }
+// AddRoundKey.
+fn added(s: Columns, k: Columns) -> Columns
+    ensures { λ r. ⌜ wordsBytes (r .a ∷ r .b ∷ r .c ∷ r .d ∷ []) ≡ addRoundKey (wordsBytes (s .a ∷ s .b ∷ s .c ∷ s .d ∷ [])) (wordsBytes (k .a ∷ k .b ∷ k .c ∷ k .d ∷ [])) ⌝ }
 {
-    let s = load(block);
-    let mut a = s.a ^ w[0];
-    let mut b = s.b ^ w[1];
-    let mut c = s.c ^ w[2];
-    let mut d = s.d ^ w[3];
-    let mut n = 0;
-    while n < 9 {
-        let k = 4 * n + 4;
-        let e = column(te, a, b, c, d) ^ w[k];
-        let f = column(te, b, c, d, a) ^ w[k + 1];
-        let g = column(te, c, d, a, b) ^ w[k + 2];
-        let h = column(te, d, a, b, c) ^ w[k + 3];
-        a = e;
-        b = f;
-        c = g;
-        d = h;
-        n += 1;
+    Columns {
+        a: s.a ^ k.a,
+        b: s.b ^ k.b,
+        c: s.c ^ k.c,
+        d: s.d ^ k.d,
     }
-    Columns { a, b, c, d }
+}
+
+// A round of the cipher with MixColumns.
+fn round(te: &[u32], s: Columns, k: Columns) -> Columns
+    requires { ⌜ TeTable (now te) ⌝ }
+    ensures { λ r. ⌜ wordsBytes (r .a ∷ r .b ∷ r .c ∷ r .d ∷ [])
+        ≡ addRoundKey (mixColumns (shiftRows (subBytes (wordsBytes (s .a ∷ s .b ∷ s .c ∷ s .d ∷ []))))) (wordsBytes (k .a ∷ k .b ∷ k .c ∷ k .d ∷ [])) ⌝ }
+{
+    let t = Columns {
+        a: column(te, s.a, s.b, s.c, s.d),
+        b: column(te, s.b, s.c, s.d, s.a),
+        c: column(te, s.c, s.d, s.a, s.b),
+        d: column(te, s.d, s.a, s.b, s.c),
+    };
+    added(t, k)
+}
+
+// Round key n of a key schedule.
+fn key_at(w: &[u32], n: usize) -> Columns
+    requires { ⌜ length (now w) ≡ 44 ⌝ }
+    requires { ⌜ n < 11 ⌝ }
+    ensures { λ r. ⌜ wordsBytes (r .a ∷ r .b ∷ r .c ∷ r .d ∷ []) ≡ roundKey (wordsBytes (now (w .entry))) n ⌝ }
+{
+    let m = 4 * n;
+    Columns {
+        a: w[m],
+        b: w[m + 1],
+        c: w[m + 2],
+        d: w[m + 3],
+    }
 }
 
 // The cipher of one block under a key schedule.
@@ -137,44 +152,90 @@ pub(crate) fn encrypt_with(te: &[u32], w: &[u32], block: [u8; 16]) -> [u8; 16]
     requires { ⌜ length (now w) ≡ 44 ⌝ }
     ensures { λ r. ⌜ r ≡ cipher (wordsBytes (now (w .entry))) block ⌝ }
 {
-    let s = rounds(te, w, block);
-    store(Columns {
-        a: substituted(te, s.a, s.b, s.c, s.d) ^ w[40],
-        b: substituted(te, s.b, s.c, s.d, s.a) ^ w[41],
-        c: substituted(te, s.c, s.d, s.a, s.b) ^ w[42],
-        d: substituted(te, s.d, s.a, s.b, s.c) ^ w[43],
-    })
+    let mut s = added(load(block), key_at(w, 0));
+    let mut n = 0;
+    while n < 9 {
+        n += 1;
+        s = round(te, s, key_at(w, n));
+    }
+    let t = Columns {
+        a: substituted(te, s.a, s.b, s.c, s.d),
+        b: substituted(te, s.b, s.c, s.d, s.a),
+        c: substituted(te, s.c, s.d, s.a, s.b),
+        d: substituted(te, s.d, s.a, s.b, s.c),
+    };
+    store(added(t, key_at(w, 10)))
 }
 
-// The key schedule: the key's four words, and ten times four more. power is that of the round constant.
+// The cipher of one block under a key that serves it alone: each round key is made in its round.
+pub(crate) fn encrypt_once(te: &[u32], block: [u8; 16], key: [u8; 16]) -> [u8; 16]
+    requires { ⌜ TeTable (now te) ⌝ }
+    ensures { λ r. ⌜ r ≡ aesEncrypt key block ⌝ }
+{
+    let mut k = load(key);
+    let mut s = added(load(block), k);
+    let mut power = 1;
+    let mut n = 0usize;
+    while n < 9 {
+        k = next_key(te, k, power);
+        s = round(te, s, k);
+        power = doubled(power);
+        n += 1;
+    }
+    // made before the look-ups of the last round, which is faster
+    let last = next_key(te, k, power);
+    let t = Columns {
+        a: substituted(te, s.a, s.b, s.c, s.d),
+        b: substituted(te, s.b, s.c, s.d, s.a),
+        c: substituted(te, s.c, s.d, s.a, s.b),
+        d: substituted(te, s.d, s.a, s.b, s.c),
+    };
+    store(added(t, last))
+}
+
+// The round key after k. power is that of the round constant.
+fn next_key(te: &[u32], k: Columns, power: u32) -> Columns
+    requires { ⌜ TeTable (now te) ⌝ }
+    requires { ⌜ power < 256 ⌝ }
+    ensures { λ r. ⌜ NextKey power (k .a) (k .b) (k .c) (k .d) (r .a) (r .b) (r .c) (r .d) ⌝ }
+{
+    let t = rotated_left(k.d);
+    let a = k.a ^ substituted(te, t, t, t, t) ^ power * 0x100_0000;
+    let b = k.b ^ a;
+    let c = k.c ^ b;
+    let d = k.d ^ c;
+    Columns { a, b, c, d }
+}
+
+// The product of a byte and x.
+fn doubled(x: u32) -> u32
+    requires { ⌜ x < 256 ⌝ }
+    ensures { λ r. ⌜ r ≡ xtime x ⌝ }
+{
+    (x * 2 % 0x100) ^ (x / 0x80 % 2 * 0x1b)
+}
+
+// The key schedule: the key's four words, and ten times four more.
 pub(crate) fn expand(te: &[u32], key: [u8; 16]) -> [u32; 44]
     requires { ⌜ TeTable (now te) ⌝ }
     ensures { λ r. ⌜ wordsBytes r ≡ keyExpansion key ⌝ }
 {
-    let k = load(key);
-    let mut a = k.a;
-    let mut b = k.b;
-    let mut c = k.c;
-    let mut d = k.d;
+    let mut k = load(key);
     let mut w = [0u32; 44];
-    w[0] = a;
-    w[1] = b;
-    w[2] = c;
-    w[3] = d;
+    w[0] = k.a;
+    w[1] = k.b;
+    w[2] = k.c;
+    w[3] = k.d;
     let mut power = 1;
     let mut n = 0;
     while n < 10 {
-        let t = rotated_left(d);
-        a = a ^ substituted(te, t, t, t, t) ^ power * 0x100_0000;
-        b = b ^ a;
-        c = c ^ b;
-        d = d ^ c;
-        let k = 4 * n + 4;
-        w[k] = a;
-        w[k + 1] = b;
-        w[k + 2] = c;
-        w[k + 3] = d;
-        power = (power * 2 % 0x100) ^ (power / 0x80 % 2 * 0x1b);
+        k = next_key(te, k, power);
+        let m = 4 * n + 4;
+        w[m] = k.a;
+        w[m + 1] = k.b;
+        w[m + 2] = k.c;
+        w[m + 3] = k.d;
+        power = doubled(power);
         n += 1;
     }
     w
@@ -251,8 +312,7 @@ pub fn encrypt_aes128_block(data: [u8; 16], key: [u8; 16]) -> [u8; 16]
     ensures { λ r. ⌜ r ≡ aesEncrypt key «data» ⌝ }
 {
     let te = te_table();
-    let w = expand(&te, key);
-    encrypt_with(&te, &w, data)
+    encrypt_once(&te, data, key)
 }
 
 pub fn decrypt_aes128_block(data: [u8; 16], key: [u8; 16]) -> [u8; 16]

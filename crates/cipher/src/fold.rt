@@ -9,14 +9,6 @@ ghost use Rattle.cipher.specs.Fips197.{aesEncrypt};
 ghost use Rattle.cipher.specs.Fips46.{desEncrypt, desDecrypt};
 ghost use Rattle.cipher.specs.Fold.{underEach, underEachBack};
 
-fn encrypt_aes128_under(te: &[u32], block: [u8; 16], key: [u8; 16]) -> [u8; 16]
-    requires { ⌜ TeTable (now te) ⌝ }
-    ensures { λ r. ⌜ r ≡ aesEncrypt key block ⌝ }
-{
-    let w = aes::expand(te, key);
-    aes::encrypt_with(te, &w, block)
-}
-
 fn encrypt_des_each(sp: &[u32], pc2: &[u32], block: [u8; 8], keys: &[u8]) -> [u8; 8]
     requires { ⌜ SpTable (now sp) ⌝ }
     requires { ⌜ Pc2Table (now pc2) ⌝ }
@@ -57,7 +49,7 @@ fn encrypt_aes128_each(te: &[u32], block: [u8; 16], keys: &[u8]) -> [u8; 16]
     let mut at = 0;
     while 16 <= keys.len() - at {
         let key = bytes::load16(keys, at);
-        let next = encrypt_aes128_under(te, state, key);
+        let next = aes::encrypt_once(te, state, key);
         state = next;
         at += 16;
     }

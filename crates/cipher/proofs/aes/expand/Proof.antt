@@ -4,18 +4,18 @@ use mathlib.Core.List.{[], _∷_}
 use Prim.Native.Nat.{_-_}
 use native.Mathlib.Omega.{arith}
 use lib.ListN.{replicate}
+use borrow.Author.Needs.{needs}
 use Rattle.cipher.specs.Bytes.{wordsBytes}
 use Rattle.cipher.specs.Fips197.{keyExpansion}
 use Rattle.cipher.proofs.AesSchedule.{Schedule, schedule-start, schedule-step, schedule-done}
-use borrow.Author.Needs.{needs}
 use Rattle.cipher.proofs.aes.expand.Statement.{statement}
 use Rattle.cipher.proofs.aes.expand.Tie as tie
 
 abbrev Inv-loop : tie.InvT-loop
-Inv-loop te a₀ b₀ c₀ d₀ w₀ power₀ n₀ a b c d w power n = Schedule (wordsBytes (a₀ ∷ b₀ ∷ c₀ ∷ d₀ ∷ [])) w a b c d power n
+Inv-loop te k₀ w₀ power₀ n₀ k w power n = Schedule (wordsBytes (k₀ .a ∷ k₀ .b ∷ k₀ .c ∷ k₀ .d ∷ [])) w (k .a) (k .b) (k .c) (k .d) power n
 
 abbrev μ-loop : tie.MeasureT-loop
-μ-loop te a₀ b₀ c₀ d₀ w₀ power₀ n₀ a b c d w power n = 10 - n
+μ-loop te k₀ w₀ power₀ n₀ k w power n = 10 - n
 
 load-requires : tie.Need-load-requires Inv-loop μ-loop
 load-requires c κs = search needs
@@ -35,20 +35,14 @@ array-write-w-4 c = omega arith
 loop-holds : tie.Need-loop-holds Inv-loop μ-loop
 loop-holds c = schedule-start (replicate 44 0) _ _ _ _ refl
 
-rotated-left-requires : tie.Need-rotated-left-requires Inv-loop μ-loop
-rotated-left-requires c κs = search needs
+next-key-requires : tie.Need-next-key-requires Inv-loop μ-loop
+next-key-requires c κs = search needs
 
-substituted-requires : tie.Need-substituted-requires Inv-loop μ-loop
-substituted-requires c κs = search needs
+mul-m : tie.Need-mul-m Inv-loop μ-loop
+mul-m c = omega arith
 
-mul-a : tie.Need-mul-a Inv-loop μ-loop
-mul-a c = omega arith
-
-mul-k : tie.Need-mul-k Inv-loop μ-loop
-mul-k c = omega arith
-
-add-k : tie.Need-add-k Inv-loop μ-loop
-add-k c = omega arith
+add-m : tie.Need-add-m Inv-loop μ-loop
+add-m c = omega arith
 
 mul-w : tie.Need-mul-w Inv-loop μ-loop
 mul-w c = omega arith
@@ -83,11 +77,8 @@ mul-w-4 c = omega arith
 array-write-w-8 : tie.Need-array-write-w-8 Inv-loop μ-loop
 array-write-w-8 c = omega arith
 
-mul-power : tie.Need-mul-power Inv-loop μ-loop
-mul-power c = omega arith
-
-mul-power-2 : tie.Need-mul-power-2 Inv-loop μ-loop
-mul-power-2 c = omega arith
+doubled-requires : tie.Need-doubled-requires Inv-loop μ-loop
+doubled-requires c κs = search needs
 
 add-n : tie.Need-add-n Inv-loop μ-loop
 add-n c = omega arith
@@ -97,15 +88,14 @@ loop-less c = omega arith
 
 loop-again : tie.Need-loop-again Inv-loop μ-loop
 loop-again c =
-    let r = c .before .rotated-left in
-    let l = c .before .before .before .loop in
-    schedule-step (l .inv) (c .before .before .loop-test .taken) (r .result) (c .substituted .result) (r .ensures) (c .substituted .ensures) _ _ _ _ refl refl refl refl
+    let k = c .before in
+    let t = k .before in
+    schedule-step (t .before .loop .inv) (t .loop-test .taken) _ _ _ _ _ (k .next-key .ensures) (c .doubled .ensures)
 
 returns : tie.Need-returns Inv-loop μ-loop
 returns c =
-    let l = c .before .loop in
-    let k = c .before .before .load .ensures in
-    schedule-done (l .inv) (c .loop-test .left) ∙ ap keyExpansion k
+    let l = c .before in
+    schedule-done (l .loop .inv) (c .loop-test .left) ∙ ap keyExpansion (l .before .load .ensures)
 
 pub expand-spec : {M : Type 1} → statement M
 expand-spec =
@@ -119,11 +109,9 @@ expand-spec =
     array-write-w-3
     array-write-w-4
     loop-holds
-    rotated-left-requires
-    substituted-requires
-    mul-a
-    mul-k
-    add-k
+    next-key-requires
+    mul-m
+    add-m
     mul-w
     array-write-w-5
     add-w
@@ -135,8 +123,7 @@ expand-spec =
     add-w-3
     mul-w-4
     array-write-w-8
-    mul-power
-    mul-power-2
+    doubled-requires
     add-n
     loop-less
     loop-again

@@ -22,8 +22,8 @@ sub-loop c = omega arith
 load16-requires : tie.Need-load16-requires Inv-loop μ-loop
 load16-requires c κs = omega arith
 
-encrypt-aes128-under-requires : tie.Need-encrypt-aes128-under-requires Inv-loop μ-loop
-encrypt-aes128-under-requires c κs = c .before .before .before .before .before .pre
+encrypt-once-requires : tie.Need-encrypt-once-requires Inv-loop μ-loop
+encrypt-once-requires c κs = c .before .before .before .before .before .pre
 
 add-at : tie.Need-add-at Inv-loop μ-loop
 add-at c = omega arith
@@ -32,10 +32,10 @@ loop-less : tie.Need-loop-less Inv-loop μ-loop
 loop-less c = omega arith
 
 loop-again : tie.Need-loop-again Inv-loop μ-loop
-loop-again c = under-step aesEncrypt 16 (lit< tt) (c .before .before .before .loop .inv) (omega arith) _ _ (c .before .load16 .ensures) (c .encrypt-aes128-under .ensures)
+loop-again c = under-step aesEncrypt 16 (lit< tt) (c .before .before .before .loop .inv) (omega arith) _ _ (c .before .load16 .ensures) (c .encrypt-once .ensures)
 
 returns : tie.Need-returns Inv-loop μ-loop
 returns c = under-done aesEncrypt 16 (c .before .loop .inv) (omega arith)
 
 pub encrypt-aes128-each-spec : {M : Type 1} → statement M
-encrypt-aes128-each-spec = tie.close (tie.spec Inv-loop μ-loop loop-holds sub-loop load16-requires encrypt-aes128-under-requires add-at loop-less loop-again returns)
+encrypt-aes128-each-spec = tie.close (tie.spec Inv-loop μ-loop loop-holds sub-loop load16-requires encrypt-once-requires add-at loop-less loop-again returns)
