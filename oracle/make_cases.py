@@ -1,5 +1,5 @@
 #!/usr/bin/env python3
-"""Writes crates/replay/data/frames.txt: what the original answers about sealed frames.
+"""Writes oracle/frames.txt: what the original answers about sealed frames.
 
     oracle/make_cases.py            build the oracle, check its stand-ins, write the file
     oracle/make_cases.py --check    compare with the file that is there; status 1 where it differs
@@ -16,10 +16,10 @@ import subprocess
 import sys
 
 sys.dont_write_bytecode = True
-from original import HERE, ROOT, Original, answer, refusal, text
+from original import HERE, Original, answer, refusal, text
 
 DES, AES = 1, 2
-OUT = os.path.join(ROOT, "crates", "replay", "data", "frames.txt")
+OUT = os.path.join(HERE, "frames.txt")
 OTHERS = 130
 HEAD = """\
 # Answers of the original Rust (felica-rs, commit f0cb61fbbd) about sealed frames
@@ -537,7 +537,6 @@ def main():
             same = file.read() == made
         print("the file is the same" if same else "the file differs")
         sys.exit(0 if same else 1)
-    os.makedirs(os.path.dirname(options.out), exist_ok=True)
     with open(options.out, "w") as file:
         file.write(made)
 

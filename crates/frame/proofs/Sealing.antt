@@ -1,4 +1,4 @@
--- Sealing answers with the sealed data, for each number and each payload that fits, wherever there is room (T6, T10). Assumes nothing.
+-- Sealing answers with the sealed data, for each number and each payload that fits, wherever there is room. Assumes nothing.
 use mathlib.Core.Path.{_≡_, ap}
 use mathlib.Core.List.{List}
 use Prim.Native.Nat.{ℕ, _≤_}
