@@ -223,6 +223,9 @@ module _ (c id d : List ℕ) (code room : ℕ) (bc : Bytes c) (bi : Bytes id) (h
   d-most : length d ≤ 253
   d-most = ltb-false _ _ (none .1 .1 .0)
 
+  pub aes-fits : length (openedPayload c code id d) ≤ room
+  aes-fits = ltb-false _ _ (none .1 .1 .1 .1 .0)
+
   macs : openedMac c code id d ≡ aesMac (macKey c) (openedIv c code id d) (openedPayload c code id d)
   macs = same-equal _ _ (isnt-false _ (none .1 .1 .1 .0))
 
@@ -306,12 +309,15 @@ module _ (c id d : List ℕ) (code room : ℕ) (bc : Bytes c) (bi : Bytes id) (h
 
 -- ---- both together
 
-module _ (c id : List ℕ) (code room : ℕ) (hc : length c ≡ 36) (bc : Bytes c) (hi : length id ≡ 6) (bi : Bytes id) (ho : code < 256) (hr : 243 ≤ room) where
-  pub aes-opens : (number : ℕ) (payload : List ℕ) → AesDomain number payload → aesOpening c code id (aesSealed c code number id payload) room ≡ accepted number payload
-  aes-opens number payload h = aes-opens-sealed c id payload code number hc bc hi bi ho h room (let s = h .short in omega arith)
+module _ (c id : List ℕ) (code room : ℕ) (hc : length c ≡ 36) (bc : Bytes c) (hi : length id ≡ 6) (bi : Bytes id) (ho : code < 256) where
+  -- sealed data opens as what was sealed, wherever there is room for it
+  pub aes-opens : (number : ℕ) (payload : List ℕ) → AesDomain number payload → length payload ≤ room
+      → aesOpening c code id (aesSealed c code number id payload) room ≡ accepted number payload
+  aes-opens number payload h l = aes-opens-sealed c id payload code number hc bc hi bi ho h room l
 
+  -- data that opens as a number and a payload is their sealing
   pub aes-sealed : (d : List ℕ) → Bytes d → (number : ℕ) (payload : List ℕ) → aesOpening c code id d room ≡ accepted number payload
-      → AesDomain number payload × (d ≡ aesSealed c code number id payload)
+      → AesDomain number payload × (length payload ≤ room) × (d ≡ aesSealed c code number id payload)
   aes-sealed d bd number payload e =
       let z : aesOpening c code id d room .number ≡ 0 = ap (λ (o : Outcome). o .number) e ∙ accepted-zero number payload in
       let a = sym (aes-answer c id d code room bc bi ho bd z) ∙ e in
@@ -319,19 +325,20 @@ module _ (c id : List ℕ) (code room : ℕ) (hc : length c ≡ 36) (bc : Bytes 
       let q : openedPayload c code id d ≡ payload = accepted-bytes _ _ _ _ a in
       let dom = aes-in-domain c id d code room bc bi ho bd z in (
         record { small = rw n at (dom .small); short = rw q at (dom .short); bytes = rw q at (dom .bytes) },
+        rw q at (aes-fits c id d code room bc bi ho bd z),
         aes-was-sealed c id d code room bc bi ho bd z ∙ ap₂ (λ (m : ℕ) (l : List ℕ). aesSealed c code m id l) n q,
       )
 
-  -- T7
+  -- data opens as number and payload exactly if it is their sealing, and the payload fits the output
   pub aes-opens-exactly : (d : List ℕ) → Bytes d → (number : ℕ) (payload : List ℕ)
-      → (aesOpening c code id d room ≡ accepted number payload) ↔ (AesDomain number payload × (d ≡ aesSealed c code number id payload))
+      → (aesOpening c code id d room ≡ accepted number payload) ↔ (AesDomain number payload × (length payload ≤ room) × (d ≡ aesSealed c code number id payload))
   aes-opens-exactly d bd number payload =
-      (aes-sealed d bd number payload, λ h. ap (λ (x : List ℕ). aesOpening c code id x room) (h .1) ∙ aes-opens number payload (h .0))
+      (aes-sealed d bd number payload, λ h. ap (λ (x : List ℕ). aesOpening c code id x room) (h .2) ∙ aes-opens number payload (h .0) (h .1))
 
-  -- T8
+  -- data is refused exactly if it is the sealing of nothing that fits the output
   pub aes-refuses-exactly : (d : List ℕ) → Bytes d
-      → (aesOpening c code id d room .number ≡ 0 → ⊥) ↔ ((number : ℕ) (payload : List ℕ) → AesDomain number payload → d ≡ aesSealed c code number id payload → ⊥)
+      → (aesOpening c code id d room .number ≡ 0 → ⊥) ↔ ((number : ℕ) (payload : List ℕ) → AesDomain number payload → length payload ≤ room → d ≡ aesSealed c code number id payload → ⊥)
   aes-refuses-exactly d bd = (
-    λ refusal number payload dom e. refusal (ap (λ (x : List ℕ). aesOpening c code id x room .number) e ∙ ap (λ (o : Outcome). o .number) (aes-opens number payload dom) ∙ accepted-zero number payload),
-    λ nothing z. nothing (getD d 0 0 + getD d 1 0 * 256) (openedPayload c code id d) (aes-in-domain c id d code room bc bi ho bd z) (aes-was-sealed c id d code room bc bi ho bd z),
+    λ refusal number payload dom l e. refusal (ap (λ (x : List ℕ). aesOpening c code id x room .number) e ∙ ap (λ (o : Outcome). o .number) (aes-opens number payload dom l) ∙ accepted-zero number payload),
+    λ nothing z. nothing (getD d 0 0 + getD d 1 0 * 256) (openedPayload c code id d) (aes-in-domain c id d code room bc bi ho bd z) (aes-fits c id d code room bc bi ho bd z) (aes-was-sealed c id d code room bc bi ho bd z),
   )

@@ -225,6 +225,9 @@ module _ (key id d : List ℕ) (code room : ℕ) (hc : code < 256) (bd : Bytes d
   id-same : idOf (desPlain key d) ≡ id
   id-same = same-equal _ _ (isnt-false _ (none .1 .1 .1 .1 .1 .0))
 
+  pub des-fits : length (payloadOf (desPlain key d)) ≤ room
+  des-fits = ltb-false _ _ (none .1 .1 .1 .1 .1 .1 .0)
+
   d-blocks : length d ≡ length d / 8 * 8
   d-blocks = omega (arith, d-whole)
 
@@ -286,17 +289,18 @@ pub record DesDomain (number : ℕ) (payload : List ℕ) : Type 0 where
   pub whole : length payload % 8 ≡ 0
   pub bytes : Bytes payload
 
-module _ (key id : List ℕ) (code room : ℕ) (hk : length key ≡ 8) (hi : length id ≡ 6) (bi : Bytes id) (hc : code < 256) (hr : 232 ≤ room) where
-  -- sealed data opens as what was sealed
-  pub des-opens : (number : ℕ) (payload : List ℕ) → DesDomain number payload → desOpening key code id (desSealed key code number id payload) room ≡ accepted number payload
-  des-opens number payload h =
+module _ (key id : List ℕ) (code room : ℕ) (hk : length key ≡ 8) (hi : length id ≡ 6) (bi : Bytes id) (hc : code < 256) where
+  -- sealed data opens as what was sealed, wherever there is room for it
+  pub des-opens : (number : ℕ) (payload : List ℕ) → DesDomain number payload → length payload ≤ room
+      → desOpening key code id (desSealed key code number id payload) room ≡ accepted number payload
+  des-opens number payload h l =
       let e : pad payload ≡ payload = pad-none payload (h .whole) in
-      let f : length (pad payload) ≤ room = rw e (let s = h .short in omega arith) in
+      let f : length (pad payload) ≤ room = rw e l in
       des-opens-padded key id payload code number hk hi bi hc (h .small) (h .short) (h .bytes) room f ∙ ap (accepted number) e
 
   -- data that opens as a number and a payload is their sealing
   pub des-sealed : (d : List ℕ) → Bytes d → (number : ℕ) (payload : List ℕ) → desOpening key code id d room ≡ accepted number payload
-      → DesDomain number payload × (d ≡ desSealed key code number id payload)
+      → DesDomain number payload × (length payload ≤ room) × (d ≡ desSealed key code number id payload)
   des-sealed d bd number payload e =
       let z : desOpening key code id d room .number ≡ 0 = ap (λ (o : Outcome). o .number) e ∙ accepted-zero number payload in
       let a = sym (des-answer key id d code room hc bd z) ∙ e in
@@ -308,21 +312,23 @@ module _ (key id : List ℕ) (code room : ℕ) (hk : length key ≡ 8) (hi : len
           whole = rw q at (des-payload-whole key id d code room hc bd z);
           bytes = rw q at (des-payload-bytes key id d code room hc bd z);
         },
+        rw q at (des-fits key id d code room hc bd z),
         des-was-sealed key id d code room hc bd z ∙ ap₂ (λ (m : ℕ) (l : List ℕ). desSealed key code m id l) n q,
       )
 
-  -- T7: data opens as number and payload exactly if it is their sealing
+  -- data opens as number and payload exactly if it is their sealing, and the payload fits the output
   pub des-opens-exactly : (d : List ℕ) → Bytes d → (number : ℕ) (payload : List ℕ)
-      → (desOpening key code id d room ≡ accepted number payload) ↔ (DesDomain number payload × (d ≡ desSealed key code number id payload))
+      → (desOpening key code id d room ≡ accepted number payload) ↔ (DesDomain number payload × (length payload ≤ room) × (d ≡ desSealed key code number id payload))
   des-opens-exactly d bd number payload =
-      (des-sealed d bd number payload, λ h. ap (λ (x : List ℕ). desOpening key code id x room) (h .1) ∙ des-opens number payload (h .0))
+      (des-sealed d bd number payload, λ h. ap (λ (x : List ℕ). desOpening key code id x room) (h .2) ∙ des-opens number payload (h .0) (h .1))
 
-  -- T8: data is refused exactly if it is the sealing of nothing
+  -- data is refused exactly if it is the sealing of nothing that fits the output
   pub des-refuses-exactly : (d : List ℕ) → Bytes d
-      → (desOpening key code id d room .number ≡ 0 → ⊥) ↔ ((number : ℕ) (payload : List ℕ) → DesDomain number payload → d ≡ desSealed key code number id payload → ⊥)
+      → (desOpening key code id d room .number ≡ 0 → ⊥) ↔ ((number : ℕ) (payload : List ℕ) → DesDomain number payload → length payload ≤ room → d ≡ desSealed key code number id payload → ⊥)
   des-refuses-exactly d bd = (
-    λ refusal number payload dom e. refusal (ap (λ (x : List ℕ). desOpening key code id x room .number) e ∙ ap (λ (o : Outcome). o .number) (des-opens number payload dom) ∙ accepted-zero number payload),
+    λ refusal number payload dom l e. refusal (ap (λ (x : List ℕ). desOpening key code id x room .number) e ∙ ap (λ (o : Outcome). o .number) (des-opens number payload dom l) ∙ accepted-zero number payload),
     λ nothing z. nothing (numberOf (desPlain key d)) (payloadOf (desPlain key d))
         (record { small = des-number key id d code room hc bd z; short = des-payload-short key id d code room hc bd z; whole = des-payload-whole key id d code room hc bd z; bytes = des-payload-bytes key id d code room hc bd z })
+        (des-fits key id d code room hc bd z)
         (des-was-sealed key id d code room hc bd z),
   )

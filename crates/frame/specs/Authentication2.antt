@@ -1,4 +1,4 @@
--- DES Authentication 2: a payload without a header, sealed under code 13; its opening keeps header and padding. Assumes nothing.
+-- DES Authentication 2: a payload to which no header is added, sealed under code 0x13; its opening gives all but the MAC, padding too. Assumes nothing.
 use Prim.Native.Nat.{ℕ, _+_, _-_, _%_}
 use mathlib.Core.List.{List, [], _∷_}
 use lib.Dec.{eqb, ltb}
