@@ -25,13 +25,14 @@ short-padded n h = omega arith
 pub record Auth2Sealable (key payload room : ℕ) : Type 0 where
   pub rows : AllFalse (auth2SealRows key payload room)
   pub eight : key ≡ 8
+  pub short : payload + padCount payload ≤ 240
   pub fits : payload + padCount payload + 8 ≤ room
 
 pub auth2-seal-passes : (key payload room k : ℕ) → k ≡ firstOf (auth2SealRows key payload room) → k ≡ 0 → Auth2Sealable key payload room
 unfolding auth2SealRows auth2Size numbered both
 auth2-seal-passes key payload room k e z =
     let a = first-passes (auth2SealRows key payload room) k refl e z in
-    record { rows = a; eight = is-number key 8 (a .0); fits = ltb-false room (auth2Size payload) (a .1 .1 .0) }
+    record { rows = a; eight = is-number key 8 (a .0); short = ltb-false 240 (payload + padCount payload) (a .1 .0); fits = ltb-false room (auth2Size payload) (a .1 .1 .0) }
 
 -- ---- opening
 

@@ -17,6 +17,7 @@ use Rattle.frame.specs.DesSteps.{openRows, plainRows, desAccepting}
 use Rattle.frame.specs.Guards.{firstOf, pick}
 use Rattle.frame.specs.Tests.{isnt, both, same}
 use Rattle.frame.proofs.Decides.{AllFalse, numbered, first-passes, either-false, is-number}
+use Rattle.frame.proofs.Pieces.{no-longer}
 use Rattle.frame.proofs.Sames.{same-is}
 
 -- the rest of a list, as a part from e to its end
@@ -40,6 +41,11 @@ unfolding payloadOf
 stripped plain p e =
     let l : length (drop 8 plain) - 8 ≡ length plain - 16 = rw length-drop (omega arith) in
     e ∙ rw (rest-part plain 8, l)
+
+-- and how long it is at most
+pub short-payload : (plain p : List ℕ) → p ≡ payloadOf plain → length plain ≤ 256 → length p ≤ 256
+unfolding payloadOf
+short-payload plain p e h = no-longer (length plain - 16) 256 (drop 8 plain) p e (rw length-drop (omega arith))
 
 module _ (code : ℕ) (id plain : List ℕ) where
   pub bad-mac : macHolds code plain ≡ false → 13 ≡ firstOf (plainRows code id plain)

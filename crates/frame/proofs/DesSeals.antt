@@ -25,14 +25,19 @@ pub pad-low : (n : ℕ) → padCount n < 8
 unfolding padCount
 pad-low n = omega arith
 
-pub length-pad : (l : List ℕ) → length (pad l) ≡ length l + padCount (length l)
-unfolding pad
-length-pad l = length-append l _ ∙ ap (λ (k : ℕ). length l + k) (length-replicate _ _)
-
 -- a padded string is a number of whole blocks
 pub pad-whole : (n : ℕ) → (n + padCount n) % 8 ≡ 0
 unfolding padCount
 pad-whole n = omega arith
+
+-- sealed data has at most 248 bytes
+pub size-most : (n : ℕ) → n ≤ 232 → desSize n ≤ 248
+unfolding desSize
+size-most n h = omega (arith, pad-low (n + 8), pad-whole (n + 8))
+
+pub length-pad : (l : List ℕ) → length (pad l) ≡ length l + padCount (length l)
+unfolding pad
+length-pad l = length-append l _ ∙ ap (λ (k : ℕ). length l + k) (length-replicate _ _)
 
 -- the padding was filled in behind the first len bytes
 pub padded-front : (o last : List ℕ) (len count : ℕ) → len + padCount len ≤ length o → count ≡ padCount len

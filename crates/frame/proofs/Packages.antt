@@ -23,6 +23,7 @@ pub record Packable (key plain room : ℕ) : Type 0 where
   pub eight : key ≡ 8
   pub blocks : plain % 8 ≡ 0
   pub some : 8 ≤ plain
+  pub short : plain ≤ 4096
   pub fits : plain + 8 ≤ room
 
 pub package-passes : (key plain room k : ℕ) → k ≡ firstOf (packageRows key plain room) → k ≡ 0 → Packable key plain room
@@ -37,6 +38,7 @@ package-passes key plain room k e z =
       eight = is-number key 8 (a .0);
       blocks = w;
       some = omega (arith, n);
+      short = ltb-false 4096 plain (a .1 .1 .0);
       fits = ltb-false room (plain + 8) (a .1 .1 .1 .0);
     }
 

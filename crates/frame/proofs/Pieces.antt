@@ -1,14 +1,21 @@
 -- Pieces of an output: one copied behind what was written, and the last one changed in place. Assumes nothing.
 use mathlib.Core.Path.{_≡_, sym, ap, ap₂, _∙_}
 use mathlib.Core.List.{List, _++_, append-assoc}
-use Prim.Native.Nat.{ℕ, _+_, _≤_}
+use Prim.Native.Nat.{ℕ, _+_, _≤_, min}
+use native.Mathlib.Nat.{min-le-right}
 use native.Mathlib.Omega.{arith}
 use borrow.Rule.Slice.PartMut.{same-len-mid}
-use lib.ListN.{length, take, drop, length-append}
+use lib.ListN.{length, take, drop, length-append, length-take}
 use lib.Seq.{take-at, drop-at}
 use Rattle.cipher.proofs.Copies.{length-part}
 use Rattle.frame.specs.Outcome.{over}
 use Rattle.frame.proofs.Overs.{length-over, copied-behind}
+
+-- a front of l is no longer than l
+pub no-longer : (n m : ℕ) (l p : List ℕ) → p ≡ take n l → length l ≤ m → length p ≤ m
+no-longer n m l p e h =
+    let q : length p ≡ min n (length l) = ap length e ∙ length-take n l in
+    omega (arith, min-le-right n (length l))
 
 -- a part came back as b, as long as it was: what reached so far still does
 pub reaches : (s b : List ℕ) (n k e : ℕ) → length b ≡ length (take k (drop n s)) → e ≤ length s → e ≤ length (take n s ++ (b ++ drop k (drop n s)))

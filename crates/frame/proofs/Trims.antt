@@ -19,11 +19,17 @@ use Rattle.frame.specs.Outcome.{Outcome, Row, refused, accepted, decide}
 use Rattle.frame.specs.Tests.{both}
 use Rattle.frame.specs.Trimmed.{trimCount, trim, trimmedOpening}
 use Rattle.frame.proofs.Decides.{AllFalse, numbered, first-refuses, first-passes, decide-false, is-number, room-enough}
+use Rattle.frame.proofs.Pieces.{no-longer}
 
 -- nothing is left of a payload that is no longer than what is dropped
 pub trim-short : (l : List ℕ) → length l ≤ trimCount (getD l (length l - 1) 0) → take 0 l ≡ trim l
 unfolding trim
 trim-short l h = let e : length l - trimCount (getD l (length l - 1) 0) ≡ 0 = omega arith in rw e
+
+-- a trimmed payload is no longer than the payload
+pub trim-no-longer : (l p : List ℕ) (m : ℕ) → p ≡ trim l → length l ≤ m → length p ≤ m
+unfolding trim
+trim-no-longer l p m e h = no-longer (length l - trimCount (getD l (length l - 1) 0)) m l p e h
 
 -- the opening and the trimmed opening have the same rows before 16
 module _ (key id sealed : List ℕ) (code : ℕ) where

@@ -5,7 +5,7 @@ ghost use mathlib.Core.List.{List};
 // number: 0, or that of the refusal; length: how many bytes were written. A refusal has 0 in both other fields.
 pub struct Answer {
     pub number: u8,
-    pub length: usize,
+    pub length: u16,
     pub transaction_number: u16,
 }
 

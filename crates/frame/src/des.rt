@@ -46,6 +46,7 @@ fn guard_authentication2_open(key_len: usize, data_len: usize) -> u8
 
 // Opens the plain text of an Authentication 2 response: all but the MAC goes out.
 fn accept_authentication2(plain: &[u8], out: &mut [u8]) -> Answer
+    requires { ⌜ length (now plain) ≤ 256 ⌝ }
     ensures { λ r. ⌜ Meets (auth2Accepting (now (plain .entry)) (length (now (out .entry)))) r (now (out .entry)) (now (out .exit)) ⌝ }
 {
     if plain.len() < 16 {
@@ -100,7 +101,7 @@ pub fn encrypt_authentication2_payload(key: &[u8], payload: &[u8], out: &mut [u8
     let length = seal_front(AUTHENTICATION2_CODE, fixed::eight(key), out, n);
     Answer {
         number: 0,
-        length,
+        length: length as u16,
         transaction_number: 0,
     }
 }
@@ -135,6 +136,7 @@ fn check_plain_des(code: u8, id: &[u8], plain: &[u8]) -> u8
 // Opens a plain text that ends with its MAC.
 fn accept_des(code: u8, id: &[u8], plain: &[u8], out: &mut [u8]) -> Answer
     requires { ⌜ 16 ≤ length (now plain) ⌝ }
+    requires { ⌜ length (now plain) ≤ 256 ⌝ }
     ensures { λ r. ⌜ Meets (desAccepting code (now (id .entry)) (now (plain .entry)) (length (now (out .entry)))) r (now (out .entry)) (now (out .exit)) ⌝ }
 {
     let refusal = check_plain_des(code, id, plain);
@@ -220,7 +222,7 @@ pub fn open_trimmed_des(code: u8, id: &[u8], key: &[u8], data: &[u8], out: &mut 
     if refusal != 0 {
         return answer::refused(refusal);
     }
-    let n = opened.length;
+    let n = opened.length as usize;
     let payload = trim_payload(&work[..n]);
     deliver::deliver(opened.transaction_number, payload, out)
 }
@@ -373,7 +375,7 @@ pub fn seal_des(
     );
     Answer {
         number: 0,
-        length,
+        length: length as u16,
         transaction_number: 0,
     }
 }
@@ -419,7 +421,7 @@ fn write_package(key: [u8; 8], plain: &[u8], out: &mut [u8]) -> usize
     requires { ⌜ length (now plain) % 8 ≡ 0 ⌝ }
     requires { ⌜ 8 ≤ length (now plain) ⌝ }
     requires { ⌜ length (now plain) + 8 ≤ length (now out) ⌝ }
-    ensures { λ r. ⌜ (r ≡ length (packaged key (now (plain .entry)))) × (now (out .exit) ≡ over (packaged key (now (plain .entry))) (now (out .entry))) ⌝ }
+    ensures { λ r. ⌜ (r ≡ length (now (plain .entry)) + 8) × (r ≡ length (packaged key (now (plain .entry)))) × (now (out .exit) ≡ over (packaged key (now (plain .entry))) (now (out .entry))) ⌝ }
 {
     let n = plain.len();
     let size = n + 8;
@@ -441,7 +443,7 @@ pub fn generate_registration_package_des(key: &[u8], plain: &[u8], out: &mut [u8
     let length = write_package(fixed::eight(key), plain, out);
     Answer {
         number: 0,
-        length,
+        length: length as u16,
         transaction_number: 0,
     }
 }

@@ -138,7 +138,7 @@ pub fn seal_aes(
     let length = write_aes(code, number, fixed::six(id), credentials, payload, out);
     Answer {
         number: 0,
-        length,
+        length: length as u16,
         transaction_number: 0,
     }
 }
@@ -153,6 +153,7 @@ fn transaction_number(low: u8, high: u8) -> u16
 
 // 13, else payload goes out. All bytes of the MACs are compared.
 fn accept_aes(number: u16, mac: [u8; 8], wanted: [u8; 8], payload: &[u8], out: &mut [u8]) -> Answer
+    requires { ⌜ length (now payload) ≤ 256 ⌝ }
     ensures { λ r. ⌜ Meets (aesAccepting number mac wanted (now (payload .entry)) (length (now (out .entry)))) r (now (out .entry)) (now (out .exit)) ⌝ }
 {
     if !cipher::ct_eq(&mac, &wanted) {

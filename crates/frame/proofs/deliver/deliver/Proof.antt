@@ -18,6 +18,9 @@ returns c =
 copy-requires : tie.Need-copy-requires
 copy-requires c κs = search needs
 
+cast-t10 : tie.Need-cast-t10
+cast-t10 c = search needs
+
 same-length : tie.Need-same-length
 same-length c = search needs
 
@@ -30,4 +33,4 @@ returns-2 c =
     (accepted-meets _ (a .payload .now) _ (a .out .now) _ refl refl refl (copied-over (a .payload .now) (a .out .now) _ (i .if1 .left) (cp .copy .ensures)))
 
 pub deliver-spec : {M : Type 1} → statement M
-deliver-spec = tie.close (tie.spec refused-requires returns copy-requires same-length returns-2)
+deliver-spec = tie.close (tie.spec refused-requires returns copy-requires cast-t10 same-length returns-2)

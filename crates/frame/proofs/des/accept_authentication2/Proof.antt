@@ -1,8 +1,10 @@
 use mathlib.Core.Path.{_≡_, sym, _∙_}
 use borrow.Author.Tests.{not-true, not-false}
+use Prim.Native.Nat.{_-_}
 use lib.ListN.{length}
 use Rattle.frame.proofs.Decides.{refused-meets}
 use Rattle.frame.proofs.Authentications.{no-block, wrong-mac, right-mac}
+use Rattle.frame.proofs.Pieces.{no-longer}
 use borrow.Author.Needs.{needs}
 use Rattle.frame.proofs.des.accept_authentication2.Statement.{statement}
 use Rattle.frame.proofs.des.accept_authentication2.Tie as tie
@@ -33,7 +35,11 @@ strip-des-response-mac-requires : tie.Need-strip-des-response-mac-requires
 strip-des-response-mac-requires c κs = search needs
 
 deliver-requires : tie.Need-deliver-requires
-deliver-requires c κs = search needs
+deliver-requires c κs =
+    let s = c .before in
+    let a = s .before .before .before .before .before .before in
+    let p = a .args .plain .now in
+    no-longer (length p - 8) 256 p _ (s .strip-des-response-mac .ensures) (a .pre)
 
 same-length : tie.Need-same-length
 same-length c = search needs

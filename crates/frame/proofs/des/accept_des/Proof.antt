@@ -3,7 +3,7 @@ use denote.Ref.{now}
 use Rattle.frame.specs.DesFrame.{payloadOf}
 use Rattle.frame.specs.DesSteps.{plainRows, desAccepting}
 use Rattle.frame.proofs.Decides.{guard-meets, passed-meets}
-use Rattle.frame.proofs.DesOpens.{stripped, plain-passes}
+use Rattle.frame.proofs.DesOpens.{stripped, short-payload, plain-passes}
 use borrow.Author.Needs.{needs}
 use Rattle.frame.proofs.des.accept_des.Statement.{statement}
 use Rattle.frame.proofs.des.accept_des.Tie as tie
@@ -38,7 +38,11 @@ transaction-number-requires : tie.Need-transaction-number-requires
 transaction-number-requires c κs = search needs
 
 deliver-requires : tie.Need-deliver-requires
-deliver-requires c κs = search needs
+deliver-requires c κs =
+    let s = c .before .before in
+    let a = s .before .before .before .before .before .before .before in
+    let p = a .args .plain .now in
+    short-payload p _ (stripped p _ (s .strip-des-response-mac .ensures)) (a .pre .1)
 
 same-length : tie.Need-same-length
 same-length c = search needs

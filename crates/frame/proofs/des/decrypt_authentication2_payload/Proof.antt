@@ -50,7 +50,10 @@ slice-aggregate-accept-authentication2 : tie.Need-slice-aggregate-accept-authent
 slice-aggregate-accept-authentication2 c = sym (length-take-le _ _ (array-share-prefix-work (c .before)))
 
 accept-authentication2-requires : tie.Need-accept-authentication2-requires
-accept-authentication2-requires c κs = search needs
+accept-authentication2-requires c κs =
+    let i = c .before .before .before .before .before .before in
+    let h = auth2-open-passes _ _ _ (i .before .guard-authentication2-open .ensures) (i .if1 .left) .short in
+    rw (← slice-aggregate-accept-authentication2 (c .before)) (omega arith)
 
 same-length : tie.Need-same-length
 same-length c = search needs

@@ -43,6 +43,13 @@ seal-front-requires c κs =
     let h = auth2-seal-passes _ _ _ _ (i .before .guard-authentication2-seal .ensures) (i .if1 .left) .fits in
     omega arith
 
+cast-t16 : tie.Need-cast-t16
+cast-t16 c =
+    let sf = c .before .before in
+    let i = sf .before .before .before .before .before .before .before in
+    let h = auth2-seal-passes _ _ _ _ (i .before .guard-authentication2-seal .ensures) (i .if1 .left) .short in
+    omega (arith, sf .seal-front .ensures .0)
+
 same-length : tie.Need-same-length
 same-length c = search needs
 
@@ -74,5 +81,6 @@ encrypt-authentication2-payload-spec =
     copy-requires
     eight-requires
     seal-front-requires
+    cast-t16
     same-length
     returns-2)

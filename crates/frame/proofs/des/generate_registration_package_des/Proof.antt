@@ -1,5 +1,6 @@
 use mathlib.Core.Path.{_≡_, refl, ap, _∙_}
 use Prim.Native.Nat.{ℕ}
+use native.Mathlib.Omega.{arith}
 use mathlib.Core.List.{List}
 use lib.ListN.{length}
 use Rattle.frame.specs.Outcome.{over}
@@ -33,6 +34,13 @@ write-package-requires c κs =
     let p = package-passes _ _ _ _ (i .before .guard-package .ensures) (i .if1 .left) in
     (p .blocks, (p .some, p .fits))
 
+cast-t13 : tie.Need-cast-t13
+cast-t13 c =
+    let w = c .before .before in
+    let i = w .before .before .before in
+    let h = package-passes _ _ _ _ (i .before .guard-package .ensures) (i .if1 .left) .short in
+    omega (arith, w .write-package .ensures .0)
+
 same-length : tie.Need-same-length
 same-length c = search needs
 
@@ -48,7 +56,7 @@ returns-2 c =
     let o = a .out .now in
     let b : packaged (e .eight .result) p ≡ packaged (a .key .now) p = ap (λ (k : List ℕ). packaged k p) (e .eight .ensures) in
     passed-meets (packageRows (length (a .key .now)) (length p) (length o)) _ _ o _ (package-passes _ _ _ _ (g .guard-package .ensures) (i .if1 .left) .rows)
-    (accepted-meets 0 _ _ o _ refl (w .write-package .ensures .0 ∙ ap length b) refl (w .write-package .ensures .1 ∙ ap (λ (l : List ℕ). over l o) b))
+    (accepted-meets 0 _ _ o _ refl (w .write-package .ensures .1 ∙ ap length b) refl (w .write-package .ensures .2 ∙ ap (λ (l : List ℕ). over l o) b))
 
 pub generate-registration-package-des-spec : {M : Type 1} → statement M
 generate-registration-package-des-spec =
@@ -59,5 +67,6 @@ generate-registration-package-des-spec =
     returns
     eight-requires
     write-package-requires
+    cast-t13
     same-length
     returns-2)

@@ -52,7 +52,9 @@ slice-aggregate-accept-des c = sym (length-take-le _ _ (array-share-prefix-work 
 accept-des-requires : tie.Need-accept-des-requires
 accept-des-requires c κs =
     let i = c .before .before .before .before .before .before in
-    rw (← slice-aggregate-accept-des (c .before)) (open-passes _ _ _ _ (i .before .guard-open-des .ensures) (i .if1 .left) .enough)
+    let p = open-passes _ _ _ _ (i .before .guard-open-des .ensures) (i .if1 .left) in
+    let h = p .short in
+    rw (← slice-aggregate-accept-des (c .before)) (p .enough, omega arith)
 
 same-length : tie.Need-same-length
 same-length c = search needs

@@ -11,7 +11,7 @@ use Rattle.frame.specs.DesFrame.{desPlain, numberOf, payloadOf}
 use Rattle.frame.specs.Trimmed.{trim}
 use Rattle.frame.proofs.Decides.{refused-meets}
 use Rattle.frame.proofs.Overs.{front}
-use Rattle.frame.proofs.Trims.{trimmed-refuses, trimmed-opens}
+use Rattle.frame.proofs.Trims.{trim-no-longer, trimmed-refuses, trimmed-opens}
 use borrow.Author.Needs.{needs}
 use Rattle.frame.proofs.des.open_trimmed_des.Statement.{statement}
 use Rattle.frame.proofs.des.open_trimmed_des.Tie as tie
@@ -34,14 +34,17 @@ returns c =
     let b : Bytes (a .«data» .now) = λ j. omega (arith, k .shared-slice-known3 .given j) in
     rw (trimmed-refuses (a .key .now) (a .id .now) (a .«data» .now) (a .code) b _ (op .open-des .ensures .number) (length (a .out .now)) (i .if1 .taken)) (refused-meets _ _ (a .out .now) (c .refused .ensures))
 
+cast-n : tie.Need-cast-n
+cast-n c = search needs
+
 array-share-prefix-work : tie.Need-array-share-prefix-work
 unfolding accepted
 array-share-prefix-work c =
-    let op = c .before .before in
+    let op = c .before .before .before in
     let k = op .before .before .before in
     let a = k .before .before .before .args in
     let b : Bytes (a .«data» .now) = λ j. omega (arith, k .shared-slice-known3 .given j) in
-    let t = trimmed-opens (a .key .now) (a .id .now) (a .«data» .now) (a .code) b _ (op .open-des .ensures .number) (length (a .out .now)) (c .if1 .left) in
+    let t = trimmed-opens (a .key .now) (a .id .now) (a .«data» .now) (a .code) b _ (op .open-des .ensures .number) (length (a .out .now)) (c .before .if1 .left) in
     let n = op .open-des .ensures .length-is ∙ ap (λ (o : Outcome). length (o .bytes)) (t .0) in
     let s = t .2 in
     omega arith
@@ -53,7 +56,10 @@ trim-payload-requires : tie.Need-trim-payload-requires
 trim-payload-requires c κs = search needs
 
 deliver-requires : tie.Need-deliver-requires
-deliver-requires c κs = search needs
+deliver-requires c κs =
+    let tp = c .before in
+    let w = tp .before in
+    trim-no-longer _ _ 256 (tp .trim-payload .ensures) (omega (arith, slice-aggregate-trim-payload w, array-share-prefix-work (w .before)))
 
 same-length : tie.Need-same-length
 same-length c = search needs
@@ -63,7 +69,7 @@ unfolding accepted
 returns-2 c =
     let d = c .before .before in
     let tp = d .before .before in
-    let i = tp .before .before in
+    let i = tp .before .before .before in
     let op = i .before .before in
     let k = op .before .before .before in
     let a = k .before .before .before .args in
@@ -85,6 +91,7 @@ open-trimmed-des-spec =
     open-des-requires
     refused-requires
     returns
+    cast-n
     array-share-prefix-work
     slice-aggregate-trim-payload
     trim-payload-requires

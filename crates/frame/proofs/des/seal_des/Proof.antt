@@ -1,12 +1,13 @@
 use mathlib.Core.Path.{_≡_, refl, ap, ap₂, _∙_}
 use Prim.Native.Nat.{ℕ}
+use native.Mathlib.Omega.{arith}
 use mathlib.Core.List.{List}
 use lib.ListN.{length}
 use Rattle.frame.specs.Outcome.{over}
 use Rattle.frame.specs.DesFrame.{desSealed}
 use Rattle.frame.specs.DesSteps.{sealRows}
 use Rattle.frame.proofs.Decides.{guard-meets, passed-meets, accepted-meets}
-use Rattle.frame.proofs.DesSeals.{seal-passes, seal-steps}
+use Rattle.frame.proofs.DesSeals.{size-most, seal-passes, seal-steps}
 use borrow.Author.Needs.{needs}
 use Rattle.frame.proofs.des.seal_des.Statement.{statement}
 use Rattle.frame.proofs.des.seal_des.Tie as tie
@@ -39,6 +40,13 @@ write-des-requires c κs =
     let p = seal-passes _ _ _ _ _ (i .before .guard-seal-des .ensures) (i .if1 .left) in
     (p .short, p .fits)
 
+cast-t18 : tie.Need-cast-t18
+cast-t18 c =
+    let w = c .before .before in
+    let i = w .before .before .before .before in
+    let h = seal-passes _ _ _ _ _ (i .before .guard-seal-des .ensures) (i .if1 .left) .short in
+    omega (arith, w .write-des .ensures .0, size-most _ h)
+
 same-length : tie.Need-same-length
 same-length c = search needs
 
@@ -68,5 +76,6 @@ seal-des-spec =
     six-requires
     eight-requires
     write-des-requires
+    cast-t18
     same-length
     returns-2)

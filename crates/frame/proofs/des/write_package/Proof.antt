@@ -68,7 +68,8 @@ returns c =
     let g : length (take (n + 8 - n) (drop n s2)) ≡ 8 = rw k (length-part s2 n 8 r2) in
     let e2 = plain-again (a .key) p o s1 s2 (m .1) r1 (m .2) (c1 .copy .ensures) in
     let e3 = copied-behind p o s2 n refl e2 mac (n + 8 - n) (omega arith) _ (c2 .copy2 .ensures) in
-    package-written (a .key) p mac o _ _ (st .pre .0) (m .0) lm e3 (en .encrypt-des-cbc-zero-iv .ensures .1) (en .encrypt-des-cbc-zero-iv .kept .0)
+    let w = package-written (a .key) p mac o _ _ (st .pre .0) (m .0) lm e3 (en .encrypt-des-cbc-zero-iv .ensures .1) (en .encrypt-des-cbc-zero-iv .kept .0) in
+    (refl, w .0, w .1)
 
 pub write-package-spec : {M : Type 1} → statement M
 write-package-spec =

@@ -87,7 +87,10 @@ calculate-mac-v2-aes128-requires : tie.Need-calculate-mac-v2-aes128-requires
 calculate-mac-v2-aes128-requires c κs = search needs
 
 accept-aes-requires : tie.Need-accept-aes-requires
-accept-aes-requires c κs = search needs
+accept-aes-requires c κs =
+    let o = c .before .before .before .before .before .before in
+    let st = o .before .before .before .before .before .before .before .before .before .before .before .before .before .before .before .before .before .before in
+    rw (← slice-aggregate-payload (c .before .before .before)) (omega (arith, st .pre .1 .1))
 
 same-length : tie.Need-same-length
 same-length c = search needs

@@ -1,9 +1,10 @@
 use mathlib.Core.Path.{_≡_, refl, sym, ap, _∙_}
 use mathlib.Core.List.{List}
 use Prim.Native.Nat.{ℕ}
+use native.Mathlib.Omega.{arith}
 use lib.ListN.{length}
 use Rattle.frame.specs.Outcome.{over}
-use Rattle.frame.specs.AesFrame.{aesSealed}
+use Rattle.frame.specs.AesFrame.{aesSealed, aesSize}
 use Rattle.frame.proofs.Decides.{meets-refused, meets-accepted}
 use Rattle.frame.proofs.AesSeals.{aes-seal-passes, aes-seal-refuses, aes-seal-accepts}
 use borrow.Author.Needs.{needs}
@@ -33,6 +34,14 @@ write-aes-requires c κs =
     let p = aes-seal-passes _ _ _ _ (sym (i .if1 .left) ∙ i .before .guard-seal-aes .ensures) in
     (p .all, (p .short, p .fits))
 
+cast-t17 : tie.Need-cast-t17
+unfolding aesSize
+cast-t17 c =
+    let w = c .before .before in
+    let i = w .before .before .before in
+    let h = aes-seal-passes _ _ _ _ (sym (i .if1 .left) ∙ i .before .guard-seal-aes .ensures) .short in
+    omega (arith, w .write-aes .ensures .0)
+
 same-length : tie.Need-same-length
 same-length c = search needs
 
@@ -58,5 +67,6 @@ seal-aes-spec =
     returns
     six-requires
     write-aes-requires
+    cast-t17
     same-length
     returns-2)
