@@ -142,6 +142,10 @@ module _ (c id payload : List ℕ) (code number : ℕ) (hc : length c ≡ 36) (b
       ap length sealed-is ∙ length-append (numberBytes number) (x ++ y)
       ∙ ap₂ _+_ (numberBytes-long number) (length-append x y ∙ ap₂ _+_ x-long y-long) ∙ omega arith
 
+  pub aes-sealed-long : length (aesSealed c code number id payload) ≡ aesSize (length payload)
+  unfolding sealed aesSize
+  aes-sealed-long = sealed-len
+
   sealed-front : take 2 sealed ≡ numberBytes number
   sealed-front = ap (take 2) sealed-is ∙ take-at (numberBytes number) (x ++ y) 2 (numberBytes-long number)
 

@@ -9,7 +9,7 @@ use lib.Dec.{eqb, ltb}
 use lib.ListN.{length, drop}
 use Rattle.frame.specs.Outcome.{Outcome, Row, Meets, refused, accepted, choose, decide, over}
 use Rattle.frame.specs.Tests.{isnt, either, both}
-use Rattle.frame.specs.Guards.{pick, firstOf}
+use Rattle.frame.specs.Guards.{firstOf}
 use Rattle.frame.specs.Delivery.{delivering}
 use Rattle.frame.specs.declared.answer.Answer.{Answer}
 use Rattle.frame.proofs.Sames.{both-true}
@@ -47,8 +47,8 @@ unfoldable pub numbered : List Row → Bool
 numbered [] = true
 numbered (r ∷ rs) = both (ltb 0 (r .number)) (numbered rs)
 
-refuses-at : (t : Bool) (n : ℕ) (rs : List Row) (o : Outcome) (k : ℕ) → k ≡ pick t n (firstOf rs) → (k ≡ firstOf rs → decide rs o ≡ refused k) → choose t (refused n) (decide rs o) ≡ refused k
-unfolding choose pick
+refuses-at : (t : Bool) (n : ℕ) (rs : List Row) (o : Outcome) (k : ℕ) → k ≡ choose t n (firstOf rs) → (k ≡ firstOf rs → decide rs o ≡ refused k) → choose t (refused n) (decide rs o) ≡ refused k
+unfolding choose
 refuses-at true n rs o k e f = ap refused (sym e)
 refuses-at false n rs o k e f = f e
 
@@ -58,8 +58,8 @@ unfolding decide firstOf
 first-refuses [] o k e h = absurd (h e)
 first-refuses (r ∷ rs) o k e h = refuses-at (r .holds) (r .number) rs o k e (λ q. first-refuses rs o k q h)
 
-passes-at : (t : Bool) (n : ℕ) (rs : List Row) → ltb 0 n ≡ true → 0 ≡ pick t n (firstOf rs) → (t ≡ false) × (0 ≡ firstOf rs)
-unfolding pick
+passes-at : (t : Bool) (n : ℕ) (rs : List Row) → ltb 0 n ≡ true → 0 ≡ choose t n (firstOf rs) → (t ≡ false) × (0 ≡ firstOf rs)
+unfolding choose
 passes-at true n rs p e = let q : 0 < n = ltb-true 0 n p in absurd (omega arith)
 passes-at false n rs p e = (refl, e)
 

@@ -10,11 +10,11 @@ use lib.ListN.{length, take, drop, length-drop}
 use lib.Seq.{take-all}
 use Rattle.cipher.specs.Fips46.{desDecrypt}
 use Rattle.cipher.specs.Fold.{underEachBack}
-use Rattle.frame.specs.Outcome.{decide}
+use Rattle.frame.specs.Outcome.{decide, choose}
 use Rattle.frame.specs.Delivery.{delivering}
 use Rattle.frame.specs.DesFrame.{macStart, recovered, macHolds, desPlain, numberOf, idOf, payloadOf, desOpening}
 use Rattle.frame.specs.DesSteps.{openRows, plainRows, desAccepting}
-use Rattle.frame.specs.Guards.{firstOf, pick}
+use Rattle.frame.specs.Guards.{firstOf}
 use Rattle.frame.specs.Tests.{isnt, both, same}
 use Rattle.frame.proofs.Decides.{AllFalse, numbered, first-passes, either-false, is-number}
 use Rattle.frame.proofs.Pieces.{no-longer}
@@ -49,15 +49,15 @@ short-payload plain p e h = no-longer (length plain - 16) 256 (drop 8 plain) p e
 
 module _ (code : ℕ) (id plain : List ℕ) where
   pub bad-mac : macHolds code plain ≡ false → 13 ≡ firstOf (plainRows code id plain)
-  unfolding plainRows firstOf pick isnt
+  unfolding plainRows firstOf choose isnt
   bad-mac h = rw h
 
   pub bad-id : macHolds code plain ≡ true → same (idOf plain) id ≡ false → 14 ≡ firstOf (plainRows code id plain)
-  unfolding plainRows firstOf pick isnt
+  unfolding plainRows firstOf choose isnt
   bad-id h i = rw (h, i)
 
   pub good-plain : macHolds code plain ≡ true → same (idOf plain) id ≡ true → 0 ≡ firstOf (plainRows code id plain)
-  unfolding plainRows firstOf pick isnt
+  unfolding plainRows firstOf choose isnt
   good-plain h i = rw (h, i)
 
   pub plain-passes : (k : ℕ) → k ≡ firstOf (plainRows code id plain) → k ≡ 0 → AllFalse (plainRows code id plain)

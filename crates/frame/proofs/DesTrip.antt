@@ -104,9 +104,9 @@ module _ (key id payload : List ℕ) (code number : ℕ) (hk : length key ≡ 8)
   unfolding desSealed desSeal full
   sealed-is = ap (λ (p : List ℕ). cbcEncrypt (desEncrypt key) 8 (replicate 8 0) (p ++ desMac code p)) plain-is
 
-  pub sealed-long : length (desSealed key code number id payload) ≡ desSize (length payload)
+  pub des-sealed-long : length (desSealed key code number id payload) ≡ desSize (length payload)
   unfolding desSize
-  sealed-long =
+  des-sealed-long =
       let e : padCount (length payload + 8) ≡ padCount (length payload) = ap padCount (add-comm (length payload) 8) ∙ padCount-header (length payload) in
       ap length sealed-is ∙ length-des-cbc key full full-bytes (length full / 8) full-blocks ∙ full-long ∙ rw e (omega arith)
 

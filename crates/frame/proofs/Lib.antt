@@ -13,5 +13,6 @@ pub mod Pads
 pub mod Pieces
 pub mod Refusals
 pub mod Sames
+pub mod Schemes
 pub mod Sealing
 pub mod Trims

@@ -38,6 +38,19 @@ zero-passes (r ∷ rs) o n h = go (r .holds) refl (zero-passes rs o (n .1))
         absurd (omega (arith, n .0))
     go false e rest = (e, rest (ap (λ (p : Outcome). p .number) (sym (row-passes r rs o e)) ∙ h))
 
+-- ---- a refusal
+
+-- it writes nothing
+pub refusal-empty : (rs : List Row) (n : ℕ) (b : List ℕ) → (decide rs (accepted n b) .number ≡ 0 → ⊥) → decide rs (accepted n b) .bytes ≡ []
+unfolding decide choose refused accepted
+refusal-empty [] n b h = absurd (h refl)
+refusal-empty (r ∷ rs) n b h = go (r .holds) h (refusal-empty rs n b)
+  where
+    go : (t : Bool) → (choose t (refused (r .number)) (decide rs (accepted n b)) .number ≡ 0 → ⊥) → ((decide rs (accepted n b) .number ≡ 0 → ⊥) → decide rs (accepted n b) .bytes ≡ [])
+        → choose t (refused (r .number)) (decide rs (accepted n b)) .bytes ≡ []
+    go true h rest = refl
+    go false h rest = rest h
+
 -- ---- what an acceptance says
 
 pub accepted-zero : (number : ℕ) (payload : List ℕ) → accepted number payload .number ≡ 0

@@ -1,9 +1,11 @@
--- DES Authentication 2: a payload to which no header is added, sealed under code 0x13; its opening gives all but the MAC, padding too. Assumes nothing.
+-- Authentication 2. DES: a payload to which no header is added, sealed under code 0x13; its opening gives all but the MAC, padding too.
+-- AES: sealed data under code 0x43. Assumes nothing.
 use Prim.Native.Nat.{ℕ, _+_, _-_, _%_}
 use mathlib.Core.List.{List, [], _∷_}
 use lib.Dec.{eqb, ltb}
 use lib.ListN.{length, take}
 use Rattle.frame.specs.Outcome.{Outcome, Row, accepted, row, decide}
+use Rattle.frame.specs.AesFrame.{aesOpening}
 use Rattle.frame.specs.DesFrame.{macHolds, desSeal, desPlain}
 use Rattle.frame.specs.Delivery.{delivering}
 use Rattle.frame.specs.Padding.{padCount, pad}
@@ -43,3 +45,8 @@ auth2Accepting plain room =
 
 unfoldable pub auth2Opening : List ℕ → List ℕ → ℕ → Outcome
 auth2Opening key sealed room = decide (auth2OpenRows (length key) (length sealed)) (auth2Accepting (desPlain key sealed) room)
+
+-- ---- opening, AES
+
+unfoldable pub auth2OpeningAes : List ℕ → List ℕ → List ℕ → ℕ → Outcome
+auth2OpeningAes c id sealed room = aesOpening c 0x43 id sealed room

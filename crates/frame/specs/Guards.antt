@@ -1,13 +1,8 @@
 -- What a guard answers: the number of the first row that holds, 0 to go on. Assumes nothing.
 use Prim.Native.Nat.{ℕ}
-use mathlib.Core.Bool.{Bool, true, false}
 use mathlib.Core.List.{List, [], _∷_}
-use Rattle.frame.specs.Outcome.{Row}
-
-unfoldable pub pick : Bool → ℕ → ℕ → ℕ
-pick true m n = m
-pick false m n = n
+use Rattle.frame.specs.Outcome.{Row, choose}
 
 unfoldable pub firstOf : List Row → ℕ
 firstOf [] = 0
-firstOf (r ∷ rs) = pick (r .holds) (r .number) (firstOf rs)
+firstOf (r ∷ rs) = choose (r .holds) (r .number) (firstOf rs)

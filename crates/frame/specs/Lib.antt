@@ -8,5 +8,6 @@ pub mod Guards
 pub mod Outcome
 pub mod Package
 pub mod Padding
+pub mod Scheme
 pub mod Tests
 pub mod Trimmed

@@ -27,7 +27,7 @@ pub record Row : Type 0 where
 abbrev pub row : ℕ → Bool → Row
 row k b = record { number = k; holds = b }
 
-unfoldable pub choose : Bool → Outcome → Outcome → Outcome
+unfoldable pub choose : {A : Type 0} → Bool → A → A → A
 choose true a b = a
 choose false a b = b
 

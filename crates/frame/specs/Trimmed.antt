@@ -4,14 +4,13 @@ use Prim.Native.Nat.{ℕ, _-_, _%_}
 use mathlib.Core.List.{List, [], _∷_}
 use lib.Dec.{eqb, ltb}
 use lib.ListN.{length, take, getD}
-use Rattle.frame.specs.Outcome.{Outcome, accepted, row, decide}
+use Rattle.frame.specs.Outcome.{Outcome, accepted, row, decide, choose}
 use Rattle.frame.specs.DesFrame.{macHolds, desPlain, numberOf, idOf, payloadOf}
-use Rattle.frame.specs.Guards.{pick}
 use Rattle.frame.specs.Tests.{isnt, either, both, same}
 
 -- how many bytes a last byte v drops
 unfoldable pub trimCount : ℕ → ℕ
-trimCount v = pick (both (ltb 0 v) (ltb v 8)) v 0
+trimCount v = choose (both (ltb 0 v) (ltb v 8)) v 0
 
 unfoldable pub trim : List ℕ → List ℕ
 trim l = take (length l - trimCount (getD l (length l - 1) 0)) l

@@ -18,3 +18,14 @@ pub(crate) fn refused(number: u8) -> Answer
         transaction_number: 0,
     }
 }
+
+// An acceptance with a length.
+pub(crate) fn sized(length: u16) -> Answer
+    ensures { λ r. ⌜ (r .number ≡ 0) × (r .length ≡ length) × (r .«transaction_number» ≡ 0) ⌝ }
+{
+    Answer {
+        number: 0,
+        length,
+        transaction_number: 0,
+    }
+}

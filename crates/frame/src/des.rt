@@ -305,7 +305,7 @@ fn write_header(number: u16, id: [u8; 6], out: &mut [u8])
 }
 
 // The size of a sealed payload of n bytes.
-fn size_des(n: usize) -> usize
+pub(crate) fn size_des(n: usize) -> usize
     requires { ⌜ n ≤ 232 ⌝ }
     ensures { λ r. ⌜ r ≡ desSize n ⌝ }
 {

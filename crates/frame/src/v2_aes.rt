@@ -9,7 +9,10 @@ ghost use lib.ListN.{length};
 ghost use Rattle.frame.specs.Outcome.{Meets, over};
 ghost use Rattle.frame.specs.Guards.{firstOf};
 ghost use Rattle.frame.specs.AesSteps.{aesSealRows, aesOpenRows, aesAccepting, aesTrying};
+ghost use Rattle.frame.specs.Authentication2.{auth2OpeningAes};
 ghost use Rattle.frame.specs.AesFrame.{cipherKey, macKey, challenge3C, aesIv, aesMac, aesSealed, aesSize, aesSealing, aesOpening};
+
+const AUTHENTICATION2_CODE: u8 = 0x43;
 
 // ---- the parts of the credentials
 
@@ -218,4 +221,16 @@ pub fn open_aes(code: u8, id: &[u8], credentials: &[u8], data: &[u8], out: &mut 
         return answer::refused(refusal);
     }
     decrypt_secure_response_v2_aes128(code, fixed::six(id), credentials, data, out)
+}
+
+// Opens an Authentication 2 response.
+pub fn decrypt_authentication2_payload_v2_aes128(
+    id: &[u8],
+    credentials: &[u8],
+    data: &[u8],
+    out: &mut [u8],
+) -> Answer
+    ensures { λ r. ⌜ Meets (auth2OpeningAes (now (credentials .entry)) (now (id .entry)) (now («data» .entry)) (length (now (out .entry)))) r (now (out .entry)) (now (out .exit)) ⌝ }
+{
+    open_aes(AUTHENTICATION2_CODE, id, credentials, data, out)
 }

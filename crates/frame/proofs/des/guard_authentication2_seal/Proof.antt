@@ -1,6 +1,7 @@
 use borrow.Author.Tests.{eq-eqb, ne-eqb, lt-ltb, le-ltb}
+use Rattle.frame.specs.Outcome.{choose}
 use Rattle.frame.specs.Authentication2.{auth2SealRows, auth2Size}
-use Rattle.frame.specs.Guards.{firstOf, pick}
+use Rattle.frame.specs.Guards.{firstOf}
 use Rattle.frame.specs.Tests.{isnt, either}
 use Prim.Native.Nat.{_+_, _<_, _≤_}
 use native.Mathlib.Omega.{arith}
@@ -12,11 +13,11 @@ use Rattle.frame.proofs.des.guard_authentication2_seal.Statement.{state
 use Rattle.frame.proofs.des.guard_authentication2_seal.Tie as tie
 
 returns : tie.Need-returns
-unfolding auth2SealRows auth2Size firstOf pick isnt
+unfolding auth2SealRows auth2Size firstOf choose isnt
 returns c = rw (ne-eqb _ _ (c .if1 .taken))
 
 returns-2 : tie.Need-returns-2
-unfolding auth2SealRows auth2Size firstOf pick isnt
+unfolding auth2SealRows auth2Size firstOf choose isnt
 returns-2 c =
     let n = c .before .before .args .payload-len in
     let h : 240 < n + padCount n = omega arith in
@@ -32,7 +33,7 @@ add-if3-2 : tie.Need-add-if3-2
 add-if3-2 c = omega (arith, pad-low (c .before .before .before .args .payload-len))
 
 returns-3 : tie.Need-returns-3
-unfolding auth2SealRows auth2Size firstOf pick isnt
+unfolding auth2SealRows auth2Size firstOf choose isnt
 returns-3 c =
     let i = c .before .before in
     let a = i .before .before .args in
@@ -41,7 +42,7 @@ returns-3 c =
     rw (eq-eqb _ _ (i .before .if1 .left), le-ltb _ _ (short-padded n (i .if2 .left)), lt-ltb _ _ h)
 
 returns-4 : tie.Need-returns-4
-unfolding auth2SealRows auth2Size firstOf pick isnt
+unfolding auth2SealRows auth2Size firstOf choose isnt
 returns-4 c =
     let i = c .before .before in
     let a = i .before .before .args in

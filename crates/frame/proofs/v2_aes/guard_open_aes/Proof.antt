@@ -1,28 +1,29 @@
 use borrow.Author.Tests.{eq-eqb, ne-eqb, lt-ltb, le-ltb}
+use Rattle.frame.specs.Outcome.{choose}
 use Rattle.frame.specs.AesSteps.{aesOpenRows}
-use Rattle.frame.specs.Guards.{firstOf, pick}
+use Rattle.frame.specs.Guards.{firstOf}
 use Rattle.frame.specs.Tests.{isnt, either}
 use Rattle.frame.proofs.v2_aes.guard_open_aes.Statement.{statement}
 use Rattle.frame.proofs.v2_aes.guard_open_aes.Tie as tie
 
 returns : tie.Need-returns
-unfolding aesOpenRows firstOf pick isnt either
+unfolding aesOpenRows firstOf choose isnt either
 returns c = rw (ne-eqb _ _ (c .if1 .taken))
 
 returns-2 : tie.Need-returns-2
-unfolding aesOpenRows firstOf pick isnt either
+unfolding aesOpenRows firstOf choose isnt either
 returns-2 c = rw (eq-eqb _ _ (c .before .if1 .left), ne-eqb _ _ (c .if2 .taken))
 
 returns-3 : tie.Need-returns-3
-unfolding aesOpenRows firstOf pick isnt either
+unfolding aesOpenRows firstOf choose isnt either
 returns-3 c = rw (eq-eqb _ _ (c .before .before .if1 .left), eq-eqb _ _ (c .before .if2 .left), lt-ltb _ _ (c .if3 .taken))
 
 returns-4 : tie.Need-returns-4
-unfolding aesOpenRows firstOf pick isnt either
+unfolding aesOpenRows firstOf choose isnt either
 returns-4 c = rw (eq-eqb _ _ (c .before .before .before .if1 .left), eq-eqb _ _ (c .before .before .if2 .left), le-ltb _ _ (c .before .if3 .left), lt-ltb _ _ (c .if4 .taken))
 
 returns-5 : tie.Need-returns-5
-unfolding aesOpenRows firstOf pick isnt either
+unfolding aesOpenRows firstOf choose isnt either
 returns-5 c = rw (eq-eqb _ _ (c .before .before .before .if1 .left), eq-eqb _ _ (c .before .before .if2 .left), le-ltb _ _ (c .before .if3 .left), le-ltb _ _ (c .if4 .left))
 
 pub guard-open-aes-spec : {M : Type 1} → statement M
