@@ -9,6 +9,7 @@ pub mod DesTrip
 pub mod Fronts
 pub mod Overs
 pub mod Packages
+pub mod Packs
 pub mod Pads
 pub mod Pieces
 pub mod Refusals

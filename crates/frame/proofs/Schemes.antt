@@ -175,38 +175,30 @@ module _ (q : ℕ → Outcome) (code start : ℕ) (o last : List ℕ) (r : Answe
 -- ---- the forecast
 
 module _ (scheme n : ℕ) (r : Answer) where
+  -- what `forecast` ensures
+  abbrev Forecasts : Type 0
+  Forecasts = Forecast scheme n (r .number) (r .length) × (r .«transaction_number» ≡ 0)
+
   abbrev forecastNumber : ℕ
   forecastNumber = firstOf (row 17 (isnt (either (eqb scheme 1) (eqb scheme 2))) ∷ row 12 (ltb (longest scheme) n) ∷ [])
 
-  forecast-refused : (k : ℕ) → k ≡ forecastNumber → 0 < k → Refused k r → Forecast scheme n r
+  forecast-refused : (k : ℕ) → k ≡ forecastNumber → 0 < k → Refused k r → Forecasts
   forecast-refused k e h f =
-      record {
-        number = f .0 ∙ e;
-        least = λ z. absurd (omega (arith, f .0));
-        most = λ z. absurd (omega (arith, f .0));
-        nothing = λ z. f .1;
-        transaction = f .2;
-      }
+      (record { number-is = f .0 ∙ e; least = λ z. absurd (omega (arith, f .0)); most = λ z. absurd (omega (arith, f .0)); nothing = λ z. f .1 }, f .2)
 
-  pub forecast-unknown : (scheme ≡ 1 → ⊥) → (scheme ≡ 2 → ⊥) → Refused 17 r → Forecast scheme n r
+  pub forecast-unknown : (scheme ≡ 1 → ⊥) → (scheme ≡ 2 → ⊥) → Refused 17 r → Forecasts
   unfolding firstOf choose isnt either
   forecast-unknown h i = forecast-refused 17 (rw (ne-eqb scheme 1 h, ne-eqb scheme 2 i)) (lit< tt)
 
   module _ (most : ℕ) (e : longest scheme ≡ most) (known : either (eqb scheme 1) (eqb scheme 2) ≡ true) where
-    pub forecast-long : most < n → Refused 12 r → Forecast scheme n r
+    pub forecast-long : most < n → Refused 12 r → Forecasts
     unfolding firstOf choose isnt
     forecast-long h = forecast-refused 12 (rw (known, e, lt-ltb most n h)) (lit< tt)
 
-    pub forecast-sized : n ≤ most → (r .number ≡ 0) × (r .length ≡ sealedSize scheme n) × (r .«transaction_number» ≡ 0) → Forecast scheme n r
+    pub forecast-sized : n ≤ most → (r .number ≡ 0) × (r .length ≡ sealedSize scheme n) × (r .«transaction_number» ≡ 0) → Forecasts
     unfolding firstOf choose isnt
     forecast-sized h f =
-        record {
-          number = f .0 ∙ rw (known, e, le-ltb most n h);
-          least = λ z. omega (arith, f .1);
-          most = λ z. omega (arith, f .1);
-          nothing = λ z. absurd (z (f .0));
-          transaction = f .2;
-        }
+        (record { number-is = f .0 ∙ rw (known, e, le-ltb most n h); least = λ z. omega (arith, f .1); most = λ z. omega (arith, f .1); nothing = λ z. absurd (z (f .0)) }, f .2)
 
   pub longest-des : scheme ≡ 1 → (longest scheme ≡ 232) × (either (eqb scheme 1) (eqb scheme 2) ≡ true) × (sealedSize scheme n ≡ desSize n)
   unfolding longest sealedSize choose either

@@ -7,6 +7,7 @@ pub mod DesSteps
 pub mod Guards
 pub mod Outcome
 pub mod Package
+pub mod Packed
 pub mod Padding
 pub mod Scheme
 pub mod Tests

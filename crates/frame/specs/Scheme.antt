@@ -6,7 +6,6 @@ use mathlib.Core.Bool.{Bool}
 use mathlib.Core.List.{List, [], _∷_}
 use lib.Dec.{eqb, ltb}
 use lib.ListN.{length}
-use Rattle.frame.specs.declared.answer.Answer.{Answer}
 use Rattle.frame.specs.Outcome.{Outcome, refused, accepted, row, choose}
 use Rattle.frame.specs.DesFrame.{desSize, desSealed, desSealing, desOpening}
 use Rattle.frame.specs.AesFrame.{aesSize, aesSealed, aesSealing, aesOpening}
@@ -52,11 +51,10 @@ sealedSize scheme n = choose (eqb scheme 1) (desSize n) (aesSize n)
 unfoldable pub longest : ℕ → ℕ
 longest scheme = choose (eqb scheme 1) 232 243
 
--- an answer r to the question for the size of n bytes sealed: 17 and 12 as sealing gives them, else a length that is never below the
--- sealed size and at most 7 above it. Which one is left to the program
-pub record Forecast (scheme n : ℕ) (r : Answer) : Type 0 where
-  pub number : r .number ≡ firstOf (row 17 (isnt (either (eqb scheme 1) (eqb scheme 2))) ∷ row 12 (ltb (longest scheme) n) ∷ [])
-  pub least : r .number ≡ 0 → sealedSize scheme n ≤ r .length
-  pub most : r .number ≡ 0 → r .length ≤ sealedSize scheme n + 7
-  pub nothing : (r .number ≡ 0 → ⊥) → r .length ≡ 0
-  pub transaction : r .«transaction_number» ≡ 0
+-- the answer to the question for the size of n bytes sealed, number and length: 17 and 12 as sealing gives them, else a length that is
+-- never below the sealed size and at most 7 above it. Which one is left to the program
+pub record Forecast (scheme n number size : ℕ) : Type 0 where
+  pub number-is : number ≡ firstOf (row 17 (isnt (either (eqb scheme 1) (eqb scheme 2))) ∷ row 12 (ltb (longest scheme) n) ∷ [])
+  pub least : number ≡ 0 → sealedSize scheme n ≤ size
+  pub most : number ≡ 0 → size ≤ sealedSize scheme n + 7
+  pub nothing : (number ≡ 0 → ⊥) → size ≡ 0

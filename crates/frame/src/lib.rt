@@ -4,6 +4,7 @@ mod answer;
 mod command;
 mod deliver;
 mod des;
+mod ffi;
 mod fixed;
 mod secure;
 mod v2_aes;

@@ -4,6 +4,7 @@ use crate::answer::Answer;
 use crate::command;
 use crate::des;
 use crate::v2_aes;
+ghost use mathlib.Core.Path.{_≡_};
 ghost use lib.ListN.{length};
 ghost use Rattle.frame.specs.Outcome.{Meets};
 ghost use Rattle.frame.specs.Scheme.{sealing, opening, responding, Forecast};
@@ -83,7 +84,7 @@ pub fn build_secure_response_frame(
 
 // The size of a sealed payload of payload_len bytes.
 pub fn forecast(scheme: u8, payload_len: usize) -> Answer
-    ensures { λ r. ⌜ Forecast scheme «payload_len» r ⌝ }
+    ensures { λ r. ⌜ Forecast scheme «payload_len» (r .number) (r .length) × (r .«transaction_number» ≡ 0) ⌝ }
 {
     if scheme == DES {
         if 232 < payload_len {
