@@ -1,7 +1,7 @@
 -- What the layers above take: the laws of the ciphers, modes and folds of this crate, with nothing about a cipher left to assume. Assumes nothing.
 use mathlib.Core.Path.{_≡_}
-use mathlib.Core.List.{List, _++_}
-use Prim.Native.Nat.{ℕ, _*_}
+use mathlib.Core.List.{List, _++_, map}
+use Prim.Native.Nat.{ℕ, _*_, _/_}
 use lib.Dec.{lit<}
 use lib.ListN.{length, length-replicate, replicate}
 use Rattle.cipher.specs.Bytes.{Bytes}
@@ -15,8 +15,9 @@ use Rattle.cipher.proofs.AesInverse.{aes-decrypt-encrypt, aes-encrypt-d
 use Rattle.cipher.proofs.AesLengths.{aesEncrypt-long, aesEncrypt-bytes, aesDecrypt-long, aesDecrypt-bytes}
 use Rattle.cipher.proofs.DesInverse.{des-decrypt-encrypt, des-encrypt-decrypt, length-desEncrypt, length-desDecrypt, Bytes-desEncrypt, Bytes-desDecrypt}
 use Rattle.cipher.proofs.ModeLaws.{Undone, length-cbcEncrypt, Bytes-cbcEncrypt, length-cbcDecrypt, Bytes-cbcDecrypt, cbc-decrypt-encrypt, cbc-encrypt-decrypt, length-ofb, ofb-twice, ofb-parts, input-block, Bytes-ofb}
-use Rattle.cipher.proofs.Folds.{good-under, good-back, back-under, under-back}
+use Rattle.cipher.proofs.Folds.{good-under, good-back, back-under, under-back, under-alike, back-alike}
 use Rattle.cipher.proofs.Macs.{mac-block}
+use Rattle.cipher.proofs.Parity.{des-encrypt-halves, des-decrypt-halves}
 
 -- ---- one block
 
@@ -95,6 +96,14 @@ module _ (keys s : List ℕ) (g : Block 8 s) where
 
   pub des-under-back : underEach desEncrypt 8 keys (underEachBack desDecrypt 8 keys s) ≡ s
   des-under-back = under-back desDecrypt desEncrypt 8 (Block 8) (λ k b h. desDecrypt-block k b) (λ k b h. des-redone k .undo b h) keys s g
+
+-- strings of keys whose bytes have the same halves give the same block: the lowest bits play no part
+module _ (keys keys′ s : List ℕ) (e : map (λ x. x / 2) keys ≡ map (λ x. x / 2) keys′) where
+  pub des-under-halves : underEach desEncrypt 8 keys s ≡ underEach desEncrypt 8 keys′ s
+  des-under-halves = under-alike (λ x. x / 2) desEncrypt 8 (λ k k′ b h. des-encrypt-halves k k′ h b) keys keys′ s e
+
+  pub des-back-halves : underEachBack desDecrypt 8 keys s ≡ underEachBack desDecrypt 8 keys′ s
+  des-back-halves = back-alike (λ x. x / 2) desDecrypt 8 (λ k k′ b h. des-decrypt-halves k k′ h b) keys keys′ s e
 
 -- ---- AES OFB and CMAC
 

@@ -1,11 +1,11 @@
 -- The laws of the folds (specs/Fold), over any block cipher and any width above 0. Assumes nothing.
-use mathlib.Core.Path.{_≡_, refl, ap, _∙_}
-use mathlib.Core.List.{List}
+use mathlib.Core.Path.{_≡_, refl, sym, ap, _∙_}
+use mathlib.Core.List.{List, [], _∷_, map}
 use Prim.Native.Nat.{ℕ, zero, suc, _+_, _-_, _/_, _≤_, _<_}
 use native.Mathlib.Nat.{sub-zero, div-eq-sub-div, div-eq-of-lt}
 use native.Mathlib.Numerals.{add-one}
 use native.Mathlib.Omega.{arith}
-use lib.ListN.{length, take, drop}
+use lib.ListN.{length, length-map, take, drop}
 use lib.Seq.{drop-drop}
 use Rattle.cipher.specs.Fold.{underFrom, underEach, backFrom, underEachBack}
 
@@ -96,3 +96,51 @@ module _ (E D : List ℕ → List ℕ → List ℕ) (w : ℕ) (Good : List ℕ �
   pub under-back : (keys s : List ℕ) → Good s → underEach D w keys (underEachBack E w keys s) ≡ s
   unfolding underEach underEachBack
   under-back keys s g = under-back-from (length keys / w) s keys g
+
+-- ---- a cipher that sees of a key no more than f of each byte: no more do the folds see
+module _ (f : ℕ → ℕ) where
+  map-take : (n : ℕ) (l : List ℕ) → map f (take n l) ≡ take n (map f l)
+  map-take zero l = refl
+  map-take (suc n) [] = refl
+  map-take (suc n) (x ∷ l) = ap (λ (t : List ℕ). f x ∷ t) (map-take n l)
+
+  map-drop : (n : ℕ) (l : List ℕ) → map f (drop n l) ≡ drop n (map f l)
+  map-drop zero l = refl
+  map-drop (suc n) [] = refl
+  map-drop (suc n) (x ∷ l) = map-drop n l
+
+  -- strings that f does not tell apart
+  module _ (l m : List ℕ) (e : map f l ≡ map f m) where
+    take-alike : (n : ℕ) → map f (take n l) ≡ map f (take n m)
+    take-alike n = map-take n l ∙ ap (take n) e ∙ sym (map-take n m)
+
+    drop-alike : (n : ℕ) → map f (drop n l) ≡ map f (drop n m)
+    drop-alike n = map-drop n l ∙ ap (drop n) e ∙ sym (map-drop n m)
+
+    pub length-alike : length l ≡ length m
+    length-alike = sym (length-map l f) ∙ ap length e ∙ length-map m f
+
+  module _ (E : List ℕ → List ℕ → List ℕ) (w : ℕ) (alike : (k k′ b : List ℕ) → map f k ≡ map f k′ → E k b ≡ E k′ b) where
+    under-from-alike : (n : ℕ) (s keys keys′ : List ℕ) → map f keys ≡ map f keys′ → underFrom E w s n keys ≡ underFrom E w s n keys′
+    unfolding underFrom
+    under-from-alike zero s keys keys′ e = refl
+    under-from-alike (suc n) s keys keys′ e =
+        ap (λ (t : List ℕ). underFrom E w t n (drop w keys)) (alike (take w keys) (take w keys′) s (take-alike keys keys′ e w))
+        ∙ under-from-alike n (E (take w keys′) s) (drop w keys) (drop w keys′) (drop-alike keys keys′ e w)
+
+    pub under-alike : (keys keys′ s : List ℕ) → map f keys ≡ map f keys′ → underEach E w keys s ≡ underEach E w keys′ s
+    unfolding underEach
+    under-alike keys keys′ s e =
+        ap (λ (n : ℕ). underFrom E w s (n / w) keys) (length-alike keys keys′ e) ∙ under-from-alike (length keys′ / w) s keys keys′ e
+
+    back-from-alike : (n : ℕ) (s keys keys′ : List ℕ) → map f keys ≡ map f keys′ → backFrom E w s n keys ≡ backFrom E w s n keys′
+    unfolding backFrom
+    back-from-alike zero s keys keys′ e = refl
+    back-from-alike (suc n) s keys keys′ e =
+        alike (take w keys) (take w keys′) (backFrom E w s n (drop w keys)) (take-alike keys keys′ e w)
+        ∙ ap (E (take w keys′)) (back-from-alike n s (drop w keys) (drop w keys′) (drop-alike keys keys′ e w))
+
+    pub back-alike : (keys keys′ s : List ℕ) → map f keys ≡ map f keys′ → underEachBack E w keys s ≡ underEachBack E w keys′ s
+    unfolding underEachBack
+    back-alike keys keys′ s e =
+        ap (λ (n : ℕ). backFrom E w s (n / w) keys) (length-alike keys keys′ e) ∙ back-from-alike (length keys′ / w) s keys keys′ e

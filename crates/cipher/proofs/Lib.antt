@@ -27,6 +27,7 @@ pub mod Macs
 pub mod ModeLaws
 pub mod Modes
 pub mod Numbers
+pub mod Parity
 pub mod Table
 pub mod Tabs
 pub mod Words

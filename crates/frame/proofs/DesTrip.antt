@@ -35,19 +35,25 @@ pub desMac-block : (code : ℕ) (plain : List ℕ) → code < 256 → Block 8 (d
 unfolding desMac
 desMac-block code plain h = des-under-block plain _ (macStart-block (length plain + 10) code h)
 
+-- what is compared when m is the MAC behind a plain text
+pub mac-behind : (code : ℕ) (plain m : List ℕ) → length m ≡ 8 → macHolds code (plain ++ m) ≡ same (underEachBack desDecrypt 8 plain m) (macStart (length plain + 10) code)
+unfolding macHolds recovered
+mac-behind code plain m h =
+    let l : length (plain ++ m) ≡ length plain + 8 = length-append plain m ∙ ap (λ (k : ℕ). length plain + k) h in
+    let e : length (plain ++ m) - 8 ≡ length plain = omega arith in
+    let n : length (plain ++ m) + 2 ≡ length plain + 10 = omega arith in
+    rw (e, n, take-at plain m (length plain) refl, drop-at plain m (length plain) refl)
+
 -- the MAC that stands behind a plain text of whole blocks is recovered
 module _ (code : ℕ) (plain : List ℕ) (hc : code < 256) where
   pub length-whole : length (plain ++ desMac code plain) ≡ length plain + 8
   length-whole = length-append plain _ ∙ ap (λ (k : ℕ). length plain + k) (desMac-block code plain hc .long)
 
   pub mac-recovered : macHolds code (plain ++ desMac code plain) ≡ true
-  unfolding macHolds recovered desMac
+  unfolding desMac
   mac-recovered =
-      let e : length (plain ++ desMac code plain) - 8 ≡ length plain = rw length-whole (omega arith) in
-      let n : length plain + 10 ≡ length (plain ++ desMac code plain) + 2 = rw length-whole (omega arith) in
-      same-of _ _
-      (rw (e, take-at plain (desMac code plain) (length plain) refl, drop-at plain (desMac code plain) (length plain) refl)
-      (des-back-under plain (macStart (length plain + 10) code) (macStart-block (length plain + 10) code hc) ∙ ap (λ (k : ℕ). macStart k code) n))
+      mac-behind code plain (desMac code plain) (desMac-block code plain hc .long)
+      ∙ same-of _ _ (des-back-under plain (macStart (length plain + 10) code) (macStart-block (length plain + 10) code hc))
 
 pub header-long : (number : ℕ) (id : List ℕ) → length id ≡ 6 → length (header number id) ≡ 8
 unfolding header

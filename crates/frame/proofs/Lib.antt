@@ -7,6 +7,7 @@ pub mod DesOpens
 pub mod DesSeals
 pub mod DesTrip
 pub mod Fronts
+pub mod MacBits
 pub mod Overs
 pub mod Packages
 pub mod Packs
