@@ -6,6 +6,7 @@ pub mod Decides
 pub mod DesOpens
 pub mod DesSeals
 pub mod DesTrip
+pub mod Frames
 pub mod Fronts
 pub mod MacBits
 pub mod Overs
@@ -14,6 +15,7 @@ pub mod Packs
 pub mod Pads
 pub mod Pieces
 pub mod Refusals
+pub mod Rooms
 pub mod Sames
 pub mod Schemes
 pub mod Sealing

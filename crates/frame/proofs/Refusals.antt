@@ -23,7 +23,7 @@ row-passes : (r : Row) (rs : List Row) (o : Outcome) → r .holds ≡ false → 
 unfolding decide choose
 row-passes r rs o e = rw e
 
-refused-number : (k : ℕ) → refused k .number ≡ k
+pub refused-number : (k : ℕ) → refused k .number ≡ k
 unfolding refused
 refused-number k = refl
 
@@ -39,6 +39,23 @@ zero-passes (r ∷ rs) o n h = go (r .holds) refl (zero-passes rs o (n .1))
     go false e rest = (e, rest (ap (λ (p : Outcome). p .number) (sym (row-passes r rs o e)) ∙ h))
 
 -- ---- a refusal
+
+-- no row has the number k
+abbrev pub Without : ℕ → List Row → Type 0
+Without k [] = Unit {0}
+Without k (r ∷ rs) = (r .number ≡ k → ⊥) × Without k rs
+
+-- a number that no row has comes from the work
+pub from-work : (k : ℕ) (rs : List Row) (o : Outcome) → Without k rs → decide rs o .number ≡ k → AllFalse rs × (o .number ≡ k)
+unfolding decide
+from-work k [] o n h = (tt, h)
+from-work k (r ∷ rs) o n h = go (r .holds) refl (from-work k rs o (n .1))
+  where
+    go : (b : Bool) → r .holds ≡ b → (decide rs o .number ≡ k → AllFalse rs × (o .number ≡ k)) → AllFalse (r ∷ rs) × (o .number ≡ k)
+    go true e rest = absurd (n .0 (sym (refused-number (r .number)) ∙ ap (λ (p : Outcome). p .number) (sym (row-holds r rs o e)) ∙ h))
+    go false e rest =
+        let q = rest (ap (λ (p : Outcome). p .number) (sym (row-passes r rs o e)) ∙ h) in
+        ((e, q .0), q .1)
 
 -- it writes nothing
 pub refusal-empty : (rs : List Row) (n : ℕ) (b : List ℕ) → (decide rs (accepted n b) .number ≡ 0 → ⊥) → decide rs (accepted n b) .bytes ≡ []

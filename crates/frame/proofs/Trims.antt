@@ -33,10 +33,10 @@ trim-no-longer l p m e h = no-longer (length l - trimCount (getD l (length l - 1
 
 -- the opening and the trimmed opening have the same rows before 16
 module _ (key id sealed : List ℕ) (code : ℕ) where
-  abbrev before16 : List Row
+  abbrev pub before16 : List Row
   before16 = openRows (length id) (length key) (length sealed) ++ plainRows code id (desPlain key sealed)
 
-  opening : (room : ℕ) → desOpening key code id sealed room ≡ decide before16 (delivering (numberOf (desPlain key sealed)) (payloadOf (desPlain key sealed)) room)
+  pub opening : (room : ℕ) → desOpening key code id sealed room ≡ decide before16 (delivering (numberOf (desPlain key sealed)) (payloadOf (desPlain key sealed)) room)
   unfolding desOpening openRows plainRows delivering decide
   opening room = refl
 

@@ -1,0 +1,196 @@
+-- What a reader and a card can rely on, in both schemes: sealing answers with the sealed data; data opens as a number and a payload exactly if
+-- it is their sealing, and is refused exactly if it is the sealing of nothing; the same for response frames. Assumes nothing.
+use mathlib.Core.Path.{_≡_, refl, sym, ap, _∙_}
+use mathlib.Core.List.{List, [], _∷_}
+use mathlib.Core.Logic.{_↔_, _⊎_, ⊎-elim}
+use Prim.Native.Nat.{ℕ, _+_, _-_, _*_, _%_, _≤_, _<_}
+use native.Mathlib.Nat.{le-refl}
+use native.Mathlib.Omega.{arith}
+use lib.Dec.{eqb}
+use lib.ListN.{length, drop, getD}
+use Rattle.cipher.specs.Bytes.{Bytes}
+use Rattle.cipher.proofs.Numbers.{le-or-lt}
+use Rattle.frame.specs.Outcome.{Outcome, refused, accepted, choose}
+use Rattle.frame.specs.AesFrame.{openedPayload}
+use Rattle.frame.specs.DesFrame.{desPlain, numberOf, payloadOf}
+use Rattle.frame.specs.Scheme.{byScheme, sealed, sealing, opening, framed, responding, sealedSize, longest}
+use Rattle.frame.proofs.AesTrip.{AesDomain, aes-opens-exactly, aes-refuses-exactly, aes-sealed-long}
+use Rattle.frame.proofs.DesTrip.{DesDomain, des-opens-exactly, des-refuses-exactly, des-sealed-long}
+use Rattle.frame.proofs.Refusals.{accepted-zero, refused-number}
+use Rattle.frame.proofs.Rooms.{des-short-room, des-means-short, aes-short-room, aes-means-short}
+use Rattle.frame.proofs.Schemes.{framing-accepted}
+use Rattle.frame.proofs.Sealing.{des-seals, aes-seals}
+
+-- what sealed data carries: a number of 16 bits and up to 243 bytes for AES; in whole blocks, up to 232 for DES
+pub record Domain (scheme number : ℕ) (payload : List ℕ) : Type 0 where
+  pub small : number < 65536
+  pub short : length payload ≤ longest scheme
+  pub whole : scheme ≡ 1 → length payload % 8 ≡ 0
+  pub bytes : Bytes payload
+
+-- d is the sealing of a payload that has more than `room` bytes
+pub record TooLarge (scheme : ℕ) (c id : List ℕ) (code : ℕ) (d : List ℕ) (room : ℕ) : Type 0 where
+  pub number : ℕ
+  pub payload : List ℕ
+  pub inside : Domain scheme number payload
+  pub is : d ≡ sealed scheme c code number id payload
+  pub larger : room < length payload
+
+-- for a scheme, credentials, an ID and a code
+pub record Frames (scheme : ℕ) (c id : List ℕ) (code : ℕ) : Type 0 where
+  -- sealing answers 0 with the sealed data, wherever it fits the output
+  pub seals : (number room : ℕ) (payload : List ℕ) → Domain scheme number payload → sealedSize scheme (length payload) ≤ room
+      → sealing scheme c code number id payload room ≡ accepted 0 (sealed scheme c code number id payload)
+  pub size : (number : ℕ) (payload : List ℕ) → Domain scheme number payload → length (sealed scheme c code number id payload) ≡ sealedSize scheme (length payload)
+  -- data opens as number and payload exactly if it is their sealing, wherever row 16 does not arise
+  pub opens-exactly : (d : List ℕ) (room : ℕ) → Bytes d → (opening scheme c code id d room .number ≡ 16 → ⊥) → (number : ℕ) (payload : List ℕ)
+      → (opening scheme c code id d room ≡ accepted number payload) ↔ (Domain scheme number payload × (d ≡ sealed scheme c code number id payload))
+  -- and is refused exactly if it is the sealing of nothing
+  pub refuses-exactly : (d : List ℕ) (room : ℕ) → Bytes d → (opening scheme c code id d room .number ≡ 16 → ⊥)
+      → (opening scheme c code id d room .number ≡ 0 → ⊥) ↔ ((number : ℕ) (payload : List ℕ) → Domain scheme number payload → d ≡ sealed scheme c code number id payload → ⊥)
+  -- row 16 arises exactly if it is the sealing of a payload that does not fit the output
+  pub room-exactly : (d : List ℕ) (room : ℕ) → Bytes d → (opening scheme c code id d room .number ≡ 16) ↔ TooLarge scheme c id code d room
+
+-- ---- from what opens where there is room
+
+module _ (scheme : ℕ) (c id d : List ℕ) (code room : ℕ)
+    (exactly : (number : ℕ) (payload : List ℕ) → (opening scheme c code id d room ≡ accepted number payload) ↔ (Domain scheme number payload × (length payload ≤ room) × (d ≡ sealed scheme c code number id payload)))
+    (refuses : (opening scheme c code id d room .number ≡ 0 → ⊥) ↔ ((number : ℕ) (payload : List ℕ) → Domain scheme number payload → length payload ≤ room → d ≡ sealed scheme c code number id payload → ⊥))
+    (short : (number : ℕ) (payload : List ℕ) → Domain scheme number payload → d ≡ sealed scheme c code number id payload → room < length payload → opening scheme c code id d room ≡ refused 16)
+    (arises : opening scheme c code id d room .number ≡ 16 → ⊥) where
+  fits : (number : ℕ) (payload : List ℕ) → Domain scheme number payload → d ≡ sealed scheme c code number id payload → length payload ≤ room
+  fits number payload h e =
+      ⊎-elim
+      (λ (l : length payload ≤ room). l)
+      (λ (l : room < length payload). absurd (arises (ap (λ (o : Outcome). o .number) (short number payload h e l) ∙ refused-number 16)))
+      (le-or-lt (length payload) room)
+
+  exactly-here : (number : ℕ) (payload : List ℕ) → (opening scheme c code id d room ≡ accepted number payload) ↔ (Domain scheme number payload × (d ≡ sealed scheme c code number id payload))
+  exactly-here number payload = (
+    λ e. let h = exactly number payload .0 e in (h .0, h .2),
+    λ h. exactly number payload .1 (h .0, fits number payload (h .0) (h .1), h .1),
+  )
+
+  refuses-here : (opening scheme c code id d room .number ≡ 0 → ⊥) ↔ ((number : ℕ) (payload : List ℕ) → Domain scheme number payload → d ≡ sealed scheme c code number id payload → ⊥)
+  refuses-here = (
+    λ h number payload dom e. refuses .0 h number payload dom (fits number payload dom e) e,
+    λ nothing. refuses .1 (λ number payload dom l e. nothing number payload dom e),
+  )
+
+-- ---- DES
+
+module _ (c id : List ℕ) (code : ℕ) (hk : length c ≡ 8) (hi : length id ≡ 6) (bi : Bytes id) (hc : code < 256) where
+  to-des : (number : ℕ) (payload : List ℕ) → Domain 1 number payload → DesDomain number payload
+  unfolding longest choose
+  to-des number payload h = record { small = h .small; short = h .short; whole = h .whole refl; bytes = h .bytes }
+
+  of-des : (number : ℕ) (payload : List ℕ) → DesDomain number payload → Domain 1 number payload
+  unfolding longest choose
+  of-des number payload h = record { small = h .small; short = h .short; whole = λ e. h .whole; bytes = h .bytes }
+
+  module _ (d : List ℕ) (room : ℕ) (bd : Bytes d) where
+    des-exactly : (number : ℕ) (payload : List ℕ) → (opening 1 c code id d room ≡ accepted number payload) ↔ (Domain 1 number payload × (length payload ≤ room) × (d ≡ sealed 1 c code number id payload))
+    unfolding opening byScheme sealed choose
+    des-exactly number payload =
+        let e = des-opens-exactly c id code room hk hi bi hc d bd number payload in
+        (λ q. let h = e .0 q in (of-des number payload (h .0), h .1, h .2), λ h. e .1 (to-des number payload (h .0), h .1, h .2))
+
+    des-refuses : (opening 1 c code id d room .number ≡ 0 → ⊥) ↔ ((number : ℕ) (payload : List ℕ) → Domain 1 number payload → length payload ≤ room → d ≡ sealed 1 c code number id payload → ⊥)
+    unfolding opening byScheme sealed choose
+    des-refuses =
+        let e = des-refuses-exactly c id code room hk hi bi hc d bd in
+        (λ q number payload h. e .0 q number payload (to-des number payload h), λ nothing. e .1 (λ number payload h. nothing number payload (of-des number payload h)))
+
+    des-short : (number : ℕ) (payload : List ℕ) → Domain 1 number payload → d ≡ sealed 1 c code number id payload → room < length payload → opening 1 c code id d room ≡ refused 16
+    unfolding opening byScheme sealed choose
+    des-short number payload h e l =
+        des-short-room c id d code number room (length payload) payload (des-opens-exactly c id code (length payload) hk hi bi hc d bd number payload .1 (to-des number payload h, le-refl (length payload), e)) l
+
+    des-large : opening 1 c code id d room .number ≡ 16 → TooLarge 1 c id code d room
+    unfolding opening byScheme sealed choose
+    des-large z =
+        let m = des-means-short c id d code room z in
+        let h = des-opens-exactly c id code _ hk hi bi hc d bd _ _ .0 (m .1) in
+        record { number = numberOf (desPlain c d); payload = payloadOf (desPlain c d); inside = of-des _ _ (h .0); is = h .2; larger = m .0 }
+
+  des-frames : Frames 1 c id code
+  unfolding sealing byScheme sealed sealedSize longest choose
+  des-frames =
+      record {
+        seals = λ number room payload h l. des-seals id payload code number room c (record { six = hi; all = hk; short = h .short; fits = l });
+        size = λ number payload h. des-sealed-long c id payload code number hk hi bi hc (h .small) (h .short) (h .bytes);
+        opens-exactly = λ d room bd n. exactly-here 1 c id d code room (des-exactly d room bd) (des-refuses d room bd) (des-short d room bd) n;
+        refuses-exactly = λ d room bd n. refuses-here 1 c id d code room (des-exactly d room bd) (des-refuses d room bd) (des-short d room bd) n;
+        room-exactly = λ d room bd. (des-large d room bd, λ t. ap (λ (o : Outcome). o .number) (des-short d room bd (t .number) (t .payload) (t .inside) (t .is) (t .larger)) ∙ refused-number 16);
+      }
+
+-- ---- AES
+
+module _ (c id : List ℕ) (code : ℕ) (hc : length c ≡ 36) (bc : Bytes c) (hi : length id ≡ 6) (bi : Bytes id) (ho : code < 256) where
+  to-aes : (number : ℕ) (payload : List ℕ) → Domain 2 number payload → AesDomain number payload
+  unfolding longest choose
+  to-aes number payload h = record { small = h .small; short = h .short; bytes = h .bytes }
+
+  of-aes : (number : ℕ) (payload : List ℕ) → AesDomain number payload → Domain 2 number payload
+  unfolding longest choose
+  of-aes number payload h = record { small = h .small; short = h .short; whole = λ e. absurd (omega arith); bytes = h .bytes }
+
+  module _ (d : List ℕ) (room : ℕ) (bd : Bytes d) where
+    aes-exactly : (number : ℕ) (payload : List ℕ) → (opening 2 c code id d room ≡ accepted number payload) ↔ (Domain 2 number payload × (length payload ≤ room) × (d ≡ sealed 2 c code number id payload))
+    unfolding opening byScheme sealed choose
+    aes-exactly number payload =
+        let e = aes-opens-exactly c id code room hc bc hi bi ho d bd number payload in
+        (λ q. let h = e .0 q in (of-aes number payload (h .0), h .1, h .2), λ h. e .1 (to-aes number payload (h .0), h .1, h .2))
+
+    aes-refuses : (opening 2 c code id d room .number ≡ 0 → ⊥) ↔ ((number : ℕ) (payload : List ℕ) → Domain 2 number payload → length payload ≤ room → d ≡ sealed 2 c code number id payload → ⊥)
+    unfolding opening byScheme sealed choose
+    aes-refuses =
+        let e = aes-refuses-exactly c id code room hc bc hi bi ho d bd in
+        (λ q number payload h. e .0 q number payload (to-aes number payload h), λ nothing. e .1 (λ number payload h. nothing number payload (of-aes number payload h)))
+
+    aes-short : (number : ℕ) (payload : List ℕ) → Domain 2 number payload → d ≡ sealed 2 c code number id payload → room < length payload → opening 2 c code id d room ≡ refused 16
+    unfolding opening byScheme sealed choose
+    aes-short number payload h e l =
+        aes-short-room c id d code number room (length payload) payload (aes-opens-exactly c id code (length payload) hc bc hi bi ho d bd number payload .1 (to-aes number payload h, le-refl (length payload), e)) l
+
+    aes-large : opening 2 c code id d room .number ≡ 16 → TooLarge 2 c id code d room
+    unfolding opening byScheme sealed choose
+    aes-large z =
+        let m = aes-means-short c id d code room z in
+        let h = aes-opens-exactly c id code _ hc bc hi bi ho d bd _ _ .0 (m .1) in
+        record { number = getD d 0 0 + getD d 1 0 * 256; payload = openedPayload c code id d; inside = of-aes _ _ (h .0); is = h .2; larger = m .0 }
+
+  aes-frames : Frames 2 c id code
+  unfolding sealing byScheme sealed sealedSize longest choose
+  aes-frames =
+      record {
+        seals = λ number room payload h l. aes-seals id payload code number room c (record { six = hi; all = hc; short = h .short; fits = l });
+        size = λ number payload h. aes-sealed-long c id payload code number hc bc hi bi ho (to-aes number payload h);
+        opens-exactly = λ d room bd n. exactly-here 2 c id d code room (aes-exactly d room bd) (aes-refuses d room bd) (aes-short d room bd) n;
+        refuses-exactly = λ d room bd n. refuses-here 2 c id d code room (aes-exactly d room bd) (aes-refuses d room bd) (aes-short d room bd) n;
+        room-exactly = λ d room bd. (aes-large d room bd, λ t. ap (λ (o : Outcome). o .number) (aes-short d room bd (t .number) (t .payload) (t .inside) (t .is) (t .larger)) ∙ refused-number 16);
+      }
+
+-- ---- both
+
+-- credentials of the scheme's length, an ID of 6 bytes, any code
+pub frames : (scheme : ℕ) (c id : List ℕ) (code : ℕ) → (scheme ≡ 1) ⊎ (scheme ≡ 2) → length c ≡ choose (eqb scheme 1) 8 36 → Bytes c → length id ≡ 6 → Bytes id → code < 256 → Frames scheme c id code
+unfolding choose
+frames scheme c id code known hc bc hi bi ho =
+    ⊎-elim
+    (λ (e : scheme ≡ 1). rw e (des-frames c id code (rw e at hc) hi bi ho))
+    (λ (e : scheme ≡ 2). rw e (aes-frames c id code (rw e at hc) bc hi bi ho))
+    known
+
+-- a response frame is made of the sealed data, wherever it fits the output; what follows its length byte and code opens as above
+module _ (scheme : ℕ) (c id : List ℕ) (code : ℕ) (f : Frames scheme c id code) where
+  pub responds : (number room : ℕ) (payload : List ℕ) → Domain scheme number payload → sealedSize scheme (length payload) + 2 ≤ room
+      → responding scheme c code number id payload room ≡ accepted 0 (framed code (sealed scheme c code number id payload))
+  unfolding responding accepted
+  responds number room payload h l =
+      let e = f .seals number (room - 2) payload h (omega arith) in
+      framing-accepted code _ (ap (λ (o : Outcome). o .number) e) ∙ ap (λ (o : Outcome). accepted 0 (framed code (o .bytes))) e
+
+  pub response-data : (number : ℕ) (payload : List ℕ) → drop 2 (framed code (sealed scheme c code number id payload)) ≡ sealed scheme c code number id payload
+  unfolding framed
+  response-data number payload = refl
