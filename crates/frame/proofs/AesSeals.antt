@@ -10,8 +10,9 @@ use lib.Seq.{take-all, length-take-le, set-split, set-at, drop-cons}
 use Rattle.cipher.specs.Fips197.{aesEncrypt}
 use Rattle.cipher.specs.Sp80038a.{blocks, ofb, ofbInput}
 use Rattle.cipher.specs.Sp80038b.{cmac, R128}
+use Rattle.frame.specs.Number.{numberBytes}
 use Rattle.frame.specs.Outcome.{over, refused, accepted}
-use Rattle.frame.specs.AesFrame.{cipherKey, macKey, challenge3C, aesIv, aesMac, macInput, numberBytes, aesSealed, aesSize, aesSealing}
+use Rattle.frame.specs.AesFrame.{cipherKey, macKey, challenge3C, aesIv, aesMac, macInput, aesSealed, aesSize, aesSealing}
 use Rattle.frame.specs.AesSteps.{aesSealRows}
 use Rattle.frame.specs.Tests.{isnt, both}
 use Rattle.frame.specs.Guards.{firstOf}
@@ -86,7 +87,7 @@ module _ (code number : ℕ) (id c payload out : List ℕ) (room : length payloa
       → l₃ ≡ ofb (aesEncrypt key) 16 iv (take (n + 2 - 2) (drop 2 s₂)) → length l₃ ≡ length (take (n + 2 - 2) (drop 2 s₂)) → s₃ ≡ with-part s₂ 2 (n + 2 - 2) l₃
       → mac′ ≡ ofb (aesEncrypt key) 16 (ofbInput (aesEncrypt key) 16 (blocks 16 (length (take (n + 2 - 2) (drop 2 s₂)))) iv) mac → length mac′ ≡ length mac
       → Copy mac′ (take (n + 10 - (n + 2)) (drop (n + 2) s₃)) l₄ → (n + 10 ≡ length (aesSealed c code number id payload)) × (with-part s₃ (n + 2) (n + 10 - (n + 2)) l₄ ≡ over (aesSealed c code number id payload) out)
-  unfolding aesSealed numberBytes macInput
+  unfolding aesSealed macInput
   sealed-written c3 iv mk mac key s₁ l₂ s₂ l₃ s₃ mac′ l₄ e3 eiv emk em lm h₁ h₂ e₂ ek h₃ k₃ e₃ h₄ k₄ h₅ =
       let num : List ℕ = numberBytes number in
       let w₁ : s₁ ≡ over num out = copied-over num out s₁ (omega arith) h₁ in

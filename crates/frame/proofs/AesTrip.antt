@@ -16,9 +16,10 @@ use Rattle.cipher.specs.Sp80038a.{blocks, ofb, ofbInput}
 use Rattle.cipher.specs.Sp80038b.{cmac, R128}
 use Rattle.cipher.proofs.ByteLists.{Block, Bytes-cons, Bytes-append, Bytes-take, Bytes-drop}
 use Rattle.cipher.proofs.Ciphers.{length-aes-ofb, aes-ofb-twice, Bytes-aes-ofb, aes-input-block, aes-cmac-block}
+use Rattle.frame.specs.Number.{numberBytes}
 use Rattle.frame.specs.Outcome.{Outcome, refused, accepted, row, decide}
 use Rattle.frame.specs.Tests.{isnt, either, same}
-use Rattle.frame.specs.AesFrame.{cipherKey, macKey, challenge3C, aesIv, aesMac, macInput, numberBytes, aesSealed, aesSize, aesSealing, openedIv, openedPayload, openedMac, aesOpening}
+use Rattle.frame.specs.AesFrame.{cipherKey, macKey, challenge3C, aesIv, aesMac, macInput, aesSealed, aesSize, aesSealing, openedIv, openedPayload, openedMac, aesOpening}
 use Rattle.frame.proofs.Decides.{AllFalse, decide-false, isnt-false, either-false}
 use Rattle.frame.proofs.Refusals.{zero-passes, accepted-zero, accepted-number, accepted-bytes, isnt-of, either-of, same-of}
 use Rattle.frame.proofs.Sames.{same-equal}
@@ -44,16 +45,13 @@ module _ (c : List ℕ) (hc : length c ≡ 36) (bc : Bytes c) where
   challenge3C-bytes = Bytes-drop 32 c bc
 
 pub numberBytes-bytes : (n : ℕ) → Bytes (numberBytes n)
-unfolding numberBytes
 numberBytes-bytes n = Bytes-cons (n % 256) (n / 256 % 256 ∷ []) (mod-lt n (lit< tt)) (Bytes-cons (n / 256 % 256) [] (mod-lt (n / 256) (lit< tt)) (λ i. lit< tt))
 
 pub numberBytes-long : (n : ℕ) → length (numberBytes n) ≡ 2
-unfolding numberBytes
 numberBytes-long n = refl
 
 -- two bytes are those of their number
 pub numberBytes-of : (s : List ℕ) → Bytes s → 2 ≤ length s → take 2 s ≡ numberBytes (getD s 0 0 + getD s 1 0 * 256)
-unfolding numberBytes
 numberBytes-of [] b h = absurd (omega arith)
 numberBytes-of (x ∷ []) b h = absurd (omega arith)
 numberBytes-of (x ∷ y ∷ s) b h =
@@ -177,7 +175,6 @@ module _ (c id payload : List ℕ) (code number : ℕ) (hc : length c ≡ 36) (b
       ap₂ (λ (i l : List ℕ). ofb (aesEncrypt (cipherKey c)) 16 i l) (ap₂ (λ (v : List ℕ) (n : ℕ). macInput (cipherKey c) v n) iv-is n-is) p ∙ twice mi mac mi-block
 
   number-is : getD sealed 0 0 + getD sealed 1 0 * 256 ≡ number
-  unfolding numberBytes
   number-is = ap (λ (l : List ℕ). getD l 0 0 + getD l 1 0 * 256) sealed-is ∙ omega (arith, h .small)
 
   pub aes-opens-sealed : (room : ℕ) → length payload ≤ room → aesOpening c code id (aesSealed c code number id payload) room ≡ accepted number payload

@@ -10,9 +10,10 @@ use lib.ListN.{length, take, drop, length-drop}
 use lib.Seq.{take-all}
 use Rattle.cipher.specs.Fips46.{desDecrypt}
 use Rattle.cipher.specs.Fold.{underEachBack}
+use Rattle.frame.specs.Number.{numberOf}
 use Rattle.frame.specs.Outcome.{decide, choose}
 use Rattle.frame.specs.Delivery.{delivering}
-use Rattle.frame.specs.DesFrame.{macStart, recovered, macHolds, desPlain, numberOf, idOf, payloadOf, desOpening}
+use Rattle.frame.specs.DesFrame.{macStart, recovered, macHolds, desPlain, idOf, payloadOf, desOpening}
 use Rattle.frame.specs.DesSteps.{openRows, plainRows, desAccepting}
 use Rattle.frame.specs.Guards.{firstOf}
 use Rattle.frame.specs.Tests.{isnt, both, same}

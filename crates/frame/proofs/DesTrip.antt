@@ -16,10 +16,11 @@ use Rattle.cipher.specs.Fold.{underEach, underEachBack}
 use Rattle.cipher.specs.Sp80038a.{cbcEncrypt, cbcDecrypt}
 use Rattle.cipher.proofs.ByteLists.{Block, Bytes-cons, Bytes-append, Bytes-take, Bytes-drop, Bytes-replicate}
 use Rattle.cipher.proofs.Ciphers.{des-cbc-decrypt-encrypt, des-cbc-encrypt-decrypt, length-des-cbc, length-des-cbc-back, Bytes-des-cbc-back, des-under-block, des-back-under, des-under-back}
+use Rattle.frame.specs.Number.{numberOf}
 use Rattle.frame.specs.Outcome.{Outcome, refused, accepted, row, decide}
 use Rattle.frame.specs.Padding.{padCount, pad}
 use Rattle.frame.specs.Tests.{isnt, either, same}
-use Rattle.frame.specs.DesFrame.{macStart, desMac, recovered, macHolds, desSeal, header, desSealed, desSize, desSealing, desPlain, numberOf, idOf, payloadOf, desOpening}
+use Rattle.frame.specs.DesFrame.{macStart, desMac, recovered, macHolds, desSeal, header, desSealed, desSize, desSealing, desPlain, idOf, payloadOf, desOpening}
 use Rattle.frame.proofs.Pads.{length-pad, padCount-small, padCount-whole, padCount-header, pad-none, pad-after, Bytes-pad}
 use Rattle.frame.proofs.Decides.{AllFalse, decide-false, isnt-false, either-false}
 use Rattle.frame.proofs.Refusals.{zero-passes, accepted-zero, accepted-number, accepted-bytes, isnt-of, either-of, same-of}
@@ -65,7 +66,7 @@ Bytes-header number id b = Bytes-cons (number % 256) (number / 256 % 256 ∷ id)
 
 -- what a header says
 pub number-header : (number : ℕ) (id rest : List ℕ) → number < 65536 → numberOf (header number id ++ rest) ≡ number
-unfolding numberOf header
+unfolding header
 number-header number id rest h = omega arith
 
 pub id-header : (number : ℕ) (id rest : List ℕ) → length id ≡ 6 → idOf (header number id ++ rest) ≡ id
@@ -192,7 +193,7 @@ mac-forth code p hc b h e =
 
 -- a plain text of at least 16 bytes, by its parts
 plain-parts : (p : List ℕ) → Bytes p → 16 ≤ length p → take (length p - 8) p ≡ header (numberOf p) (idOf p) ++ payloadOf p
-unfolding header numberOf idOf payloadOf
+unfolding header idOf payloadOf
 plain-parts [] b h = absurd (omega arith)
 plain-parts (x ∷ []) b h = absurd (omega arith)
 plain-parts (x ∷ y ∷ q) b h =
@@ -251,7 +252,6 @@ module _ (key id d : List ℕ) (code room : ℕ) (hc : code < 256) (bd : Bytes d
   des-answer = decide-false _ _ none
 
   pub des-number : numberOf (desPlain key d) < 65536
-  unfolding numberOf
   des-number = omega (arith, p-bytes 0, p-bytes 1)
 
   payload-long : length (payloadOf (desPlain key d)) ≡ length d - 16

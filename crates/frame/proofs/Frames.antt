@@ -10,9 +10,10 @@ use lib.Dec.{eqb}
 use lib.ListN.{length, drop, getD}
 use Rattle.cipher.specs.Bytes.{Bytes}
 use Rattle.cipher.proofs.Numbers.{le-or-lt}
+use Rattle.frame.specs.Number.{numberOf}
 use Rattle.frame.specs.Outcome.{Outcome, refused, accepted, choose}
 use Rattle.frame.specs.AesFrame.{openedPayload}
-use Rattle.frame.specs.DesFrame.{desPlain, numberOf, payloadOf}
+use Rattle.frame.specs.DesFrame.{desPlain, payloadOf}
 use Rattle.frame.specs.Scheme.{byScheme, sealed, sealing, opening, framed, responding, sealedSize, longest}
 use Rattle.frame.proofs.AesTrip.{AesDomain, aes-opens-exactly, aes-refuses-exactly, aes-sealed-long}
 use Rattle.frame.proofs.DesTrip.{DesDomain, des-opens-exactly, des-refuses-exactly, des-sealed-long}

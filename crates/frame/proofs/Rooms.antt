@@ -10,11 +10,12 @@ use lib.Dec.{lit<}
 use lib.ListN.{length, getD}
 use Rattle.cipher.specs.Bytes.{Bytes}
 use Rattle.cipher.proofs.Numbers.{le-or-lt}
+use Rattle.frame.specs.Number.{numberOf}
 use Rattle.frame.specs.Outcome.{Outcome, Row, refused, accepted, row, decide}
 use Rattle.frame.specs.Delivery.{delivering}
 use Rattle.frame.specs.AesFrame.{macKey, aesMac, openedIv, openedPayload, openedMac, aesOpening}
 use Rattle.frame.specs.AesSteps.{aesOpenRows}
-use Rattle.frame.specs.DesFrame.{desPlain, numberOf, payloadOf, desOpening}
+use Rattle.frame.specs.DesFrame.{desPlain, payloadOf, desOpening}
 use Rattle.frame.specs.DesSteps.{openRows, plainRows}
 use Rattle.frame.specs.Tests.{isnt, same}
 use Rattle.frame.proofs.Decides.{AllFalse, decide-false, no-room, room-enough}

@@ -11,8 +11,9 @@ use lib.ListN.{length, take, drop, getD, length-drop, length-take}
 use Rattle.cipher.specs.Bytes.{Bytes}
 use Rattle.cipher.proofs.Ciphers.{length-des-cbc-back}
 use Rattle.cipher.proofs.Numbers.{le-or-lt}
+use Rattle.frame.specs.Number.{numberOf}
 use Rattle.frame.specs.Delivery.{delivering}
-use Rattle.frame.specs.DesFrame.{desPlain, numberOf, payloadOf, desOpening}
+use Rattle.frame.specs.DesFrame.{desPlain, payloadOf, desOpening}
 use Rattle.frame.specs.DesSteps.{openRows, plainRows}
 use Rattle.frame.specs.Guards.{firstOf}
 use Rattle.frame.specs.Outcome.{Outcome, Row, refused, accepted, decide}

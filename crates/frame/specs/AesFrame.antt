@@ -6,6 +6,7 @@ use lib.ListN.{length, take, drop, getD}
 use Rattle.cipher.specs.Fips197.{aesEncrypt}
 use Rattle.cipher.specs.Sp80038a.{blocks, ofb, ofbInput}
 use Rattle.cipher.specs.Sp80038b.{cmac, R128}
+use Rattle.frame.specs.Number.{numberBytes, numberOf}
 use Rattle.frame.specs.Outcome.{Outcome, refused, accepted, row, decide}
 use Rattle.frame.specs.Tests.{isnt, either, same}
 
@@ -33,9 +34,6 @@ unfoldable pub macInput : List ℕ → List ℕ → ℕ → List ℕ
 macInput key iv n = ofbInput (aesEncrypt key) 16 (blocks 16 n) iv
 
 -- ---- sealing
-
-unfoldable pub numberBytes : ℕ → List ℕ
-numberBytes number = number % 256 ∷ number / 256 % 256 ∷ []
 
 -- the sealed data of a command or a response
 unfoldable pub aesSealed : List ℕ → ℕ → ℕ → List ℕ → List ℕ → List ℕ
@@ -77,4 +75,4 @@ aesOpening c code id sealed room =
     ∷ row 13 (isnt (same (openedMac c code id sealed) (aesMac (macKey c) (openedIv c code id sealed) payload)))
     ∷ row 16 (ltb room (length payload))
     ∷ [])
-    (accepted (getD sealed 0 0 + getD sealed 1 0 * 256) payload)
+    (accepted (numberOf sealed) payload)

@@ -3,6 +3,7 @@ use Prim.Native.Nat.{ℕ, _+_, _*_}
 use mathlib.Core.List.{List, [], _∷_}
 use lib.Dec.{eqb, ltb}
 use lib.ListN.{getD}
+use Rattle.frame.specs.Number.{numberOf}
 use Rattle.frame.specs.Outcome.{Outcome, Row, row, decide}
 use Rattle.frame.specs.Delivery.{delivering}
 use Rattle.frame.specs.AesFrame.{macKey, aesMac, aesSize, openedIv, openedPayload, openedMac}
@@ -25,4 +26,4 @@ aesAccepting number mac wanted payload room = decide (row 13 (isnt (same mac wan
 unfoldable pub aesTrying : List ℕ → ℕ → List ℕ → List ℕ → ℕ → Outcome
 aesTrying c code id sealed room =
     let payload = openedPayload c code id sealed in
-    aesAccepting (getD sealed 0 0 + getD sealed 1 0 * 256) (openedMac c code id sealed) (aesMac (macKey c) (openedIv c code id sealed) payload) payload room
+    aesAccepting (numberOf sealed) (openedMac c code id sealed) (aesMac (macKey c) (openedIv c code id sealed) payload) payload room

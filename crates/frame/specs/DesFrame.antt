@@ -7,6 +7,7 @@ use lib.ListN.{length, take, drop, getD, replicate}
 use Rattle.cipher.specs.Fips46.{desEncrypt, desDecrypt}
 use Rattle.cipher.specs.Fold.{underEach, underEachBack}
 use Rattle.cipher.specs.Sp80038a.{cbcEncrypt, cbcDecrypt}
+use Rattle.frame.specs.Number.{numberBytes, numberOf}
 use Rattle.frame.specs.Outcome.{Outcome, refused, accepted, row, decide}
 use Rattle.frame.specs.Padding.{padCount, pad}
 use Rattle.frame.specs.Tests.{isnt, either, same}
@@ -36,7 +37,7 @@ unfoldable pub desSeal : List ℕ → ℕ → List ℕ → List ℕ
 desSeal key code plain = cbcEncrypt (desEncrypt key) 8 (replicate 8 0) (plain ++ desMac code plain)
 
 unfoldable pub header : ℕ → List ℕ → List ℕ
-header number id = number % 256 ∷ number / 256 % 256 ∷ id
+header number id = numberBytes number ++ id
 
 -- the sealed data of a command or a response
 unfoldable pub desSealed : List ℕ → ℕ → ℕ → List ℕ → List ℕ → List ℕ
@@ -57,10 +58,7 @@ desSealing key code number id payload room =
 unfoldable pub desPlain : List ℕ → List ℕ → List ℕ
 desPlain key sealed = cbcDecrypt (desDecrypt key) 8 (replicate 8 0) sealed
 
--- number, ID and payload of a plain text with its MAC
-unfoldable pub numberOf : List ℕ → ℕ
-numberOf plain = getD plain 0 0 + getD plain 1 0 * 256
-
+-- ID and payload of a plain text with its MAC; its number starts it
 unfoldable pub idOf : List ℕ → List ℕ
 idOf plain = take 6 (drop 2 plain)
 

@@ -2,9 +2,10 @@
 use Prim.Native.Nat.{ℕ, _%_}
 use mathlib.Core.List.{List, [], _∷_}
 use lib.Dec.{eqb, ltb}
+use Rattle.frame.specs.Number.{numberOf}
 use Rattle.frame.specs.Outcome.{Outcome, Row, row, decide}
 use Rattle.frame.specs.Delivery.{delivering}
-use Rattle.frame.specs.DesFrame.{macHolds, desSize, numberOf, idOf, payloadOf}
+use Rattle.frame.specs.DesFrame.{macHolds, desSize, idOf, payloadOf}
 use Rattle.frame.specs.Tests.{isnt, either, same}
 
 -- sealing: lengths of ID, key, payload and output

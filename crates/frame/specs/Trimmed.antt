@@ -4,8 +4,9 @@ use Prim.Native.Nat.{ℕ, _-_, _%_}
 use mathlib.Core.List.{List, [], _∷_}
 use lib.Dec.{eqb, ltb}
 use lib.ListN.{length, take, getD}
+use Rattle.frame.specs.Number.{numberOf}
 use Rattle.frame.specs.Outcome.{Outcome, accepted, row, decide, choose}
-use Rattle.frame.specs.DesFrame.{macHolds, desPlain, numberOf, idOf, payloadOf}
+use Rattle.frame.specs.DesFrame.{macHolds, desPlain, idOf, payloadOf}
 use Rattle.frame.specs.Tests.{isnt, either, both, same}
 
 -- how many bytes a last byte v drops

@@ -3,12 +3,14 @@ use crate::answer;
 use crate::answer::Answer;
 use crate::deliver;
 use crate::fixed;
+use crate::number;
 ghost use mathlib.Core.Path.{_≡_};
 ghost use Prim.Native.Nat.{_+_, _-_, _%_, _≤_};
 ghost use lib.ListN.{length, take};
+ghost use Rattle.frame.specs.Number.{numberOf};
 ghost use Rattle.frame.specs.Outcome.{Meets, over};
 ghost use Rattle.frame.specs.Padding.{padCount, pad};
-ghost use Rattle.frame.specs.DesFrame.{macStart, desMac, macHolds, desSeal, header, desSealed, desSize, desSealing, desPlain, numberOf, desOpening};
+ghost use Rattle.frame.specs.DesFrame.{macStart, desMac, macHolds, desSeal, header, desSealed, desSize, desSealing, desPlain, desOpening};
 ghost use Rattle.frame.specs.Guards.{firstOf};
 ghost use Rattle.frame.specs.DesSteps.{sealRows, openRows, plainRows, desAccepting};
 ghost use Rattle.frame.specs.Authentication2.{auth2SealRows, auth2Sealing, auth2OpenRows, auth2Accepting, auth2Opening};
@@ -106,19 +108,6 @@ pub fn encrypt_authentication2_payload(key: &[u8], payload: &[u8], out: &mut [u8
     }
 }
 
-fn wide(x: u8) -> u16
-    ensures { λ r. ⌜ (r ≡ x) × (r ≤ 255) ⌝ }
-{
-    x as u16
-}
-
-fn transaction_number(plain: &[u8]) -> u16
-    requires { ⌜ 2 ≤ length (now plain) ⌝ }
-    ensures { λ r. ⌜ r ≡ numberOf (now (plain .entry)) ⌝ }
-{
-    wide(plain[0]) + wide(plain[1]) * 256
-}
-
 // 13 and 14 of opening; 0 to go on.
 fn check_plain_des(code: u8, id: &[u8], plain: &[u8]) -> u8
     requires { ⌜ 8 ≤ length (now plain) ⌝ }
@@ -144,7 +133,7 @@ fn accept_des(code: u8, id: &[u8], plain: &[u8], out: &mut [u8]) -> Answer
         return answer::refused(refusal);
     }
     let payload = strip_des_response_mac(&plain[8..]);
-    deliver::deliver(transaction_number(plain), payload, out)
+    deliver::deliver(number::transaction_number(plain), payload, out)
 }
 
 // 17, 10, 11 and 12 of opening; 0 to go on.

@@ -6,6 +6,7 @@ mod deliver;
 mod des;
 mod ffi;
 mod fixed;
+mod number;
 mod secure;
 mod v2_aes;
 

@@ -3,6 +3,7 @@ use crate::answer;
 use crate::answer::Answer;
 use crate::deliver;
 use crate::fixed;
+use crate::number;
 ghost use mathlib.Core.Path.{_≡_};
 ghost use Prim.Native.Nat.{_+_, _*_, _≤_};
 ghost use lib.ListN.{length};
@@ -148,12 +149,6 @@ pub fn seal_aes(
 
 // ---- opening
 
-fn transaction_number(low: u8, high: u8) -> u16
-    ensures { λ r. ⌜ r ≡ low + high * 256 ⌝ }
-{
-    low as u16 + high as u16 * 256
-}
-
 // 13, else payload goes out. All bytes of the MACs are compared.
 fn accept_aes(number: u16, mac: [u8; 8], wanted: [u8; 8], payload: &[u8], out: &mut [u8]) -> Answer
     requires { ⌜ length (now payload) ≤ 256 ⌝ }
@@ -182,7 +177,7 @@ pub(crate) fn decrypt_secure_response_v2_aes128(
     let end = n + 2;
     let low = data[0];
     let high = data[1];
-    let number = transaction_number(low, high);
+    let number = number::transaction_number(data);
     let iv = build_initial_vector_v2_aes128(n, code, [low, high], id, challenge_3c(credentials));
     let mut work = [0u8; 256];
     cipher::copy(&data[2..end], &mut work);

@@ -6,8 +6,9 @@ use denote.Ref.{now}
 use lib.ListN.{length, take, replicate}
 use lib.Seq.{length-take-le}
 use Rattle.cipher.specs.Bytes.{Bytes}
+use Rattle.frame.specs.Number.{numberOf}
 use Rattle.frame.specs.Outcome.{Outcome, accepted, over}
-use Rattle.frame.specs.DesFrame.{desPlain, numberOf, payloadOf}
+use Rattle.frame.specs.DesFrame.{desPlain, payloadOf}
 use Rattle.frame.specs.Trimmed.{trim}
 use Rattle.frame.proofs.Decides.{refused-meets}
 use Rattle.frame.proofs.Overs.{front}

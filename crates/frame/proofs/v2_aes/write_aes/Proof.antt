@@ -2,7 +2,8 @@ use mathlib.Core.Path.{refl}
 use native.Mathlib.Omega.{arith}
 use Prim.Native.Nat.{_+_, _-_, _≤_}
 use lib.ListN.{length}
-use Rattle.frame.specs.AesFrame.{aesSize, numberBytes}
+use Rattle.frame.specs.Number.{numberBytes}
+use Rattle.frame.specs.AesFrame.{aesSize}
 use Rattle.frame.proofs.AesSeals.{with-part, sealed-written}
 use Rattle.frame.proofs.Pieces.{reaches}
 use borrow.Author.Needs.{needs}
@@ -104,7 +105,7 @@ same-length : tie.Need-same-length
 same-length c = search needs
 
 returns : tie.Need-returns
-unfolding aesSize numberBytes
+unfolding aesSize
 returns c =
     let c3 = c .before .before in
     let ofb = c3 .before .before .before .before .before .before in

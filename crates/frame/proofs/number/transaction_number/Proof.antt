@@ -1,9 +1,9 @@
 use mathlib.Core.Path.{ap₂}
 use Prim.Native.Nat.{ℕ, _+_, _*_}
-use Rattle.frame.specs.DesFrame.{numberOf}
 use borrow.Author.Needs.{needs}
-use Rattle.frame.proofs.des.transaction_number.Statement.{statement}
-use Rattle.frame.proofs.des.transaction_number.Tie as tie
+use Rattle.frame.specs.Number.{numberOf}
+use Rattle.frame.proofs.number.transaction_number.Statement.{statement}
+use Rattle.frame.proofs.number.transaction_number.Tie as tie
 
 shared-slice-read-wide : tie.Need-shared-slice-read-wide
 shared-slice-read-wide c = search needs
@@ -24,7 +24,6 @@ add-result : tie.Need-add-result
 add-result c = search needs
 
 returns : tie.Need-returns
-unfolding numberOf
 returns c = ap₂ (λ (x y : ℕ). x + y * 256) (c .before .before .wide .ensures .0) (c .wide2 .ensures .0)
 
 pub transaction-number-spec : {M : Type 1} → statement M
