@@ -4,6 +4,7 @@ use crate::answer::Answer;
 use crate::deliver;
 use crate::fixed;
 use crate::number;
+use crate::secure;
 ghost use mathlib.Core.Path.{_≡_};
 ghost use Prim.Native.Nat.{_+_, _-_, _%_, _≤_};
 ghost use lib.ListN.{length, take};
@@ -14,6 +15,7 @@ ghost use Rattle.frame.specs.DesFrame.{macStart, desMac, macHolds, desSe
 ghost use Rattle.frame.specs.Guards.{firstOf};
 ghost use Rattle.frame.specs.DesSteps.{sealRows, openRows, plainRows, desAccepting};
 ghost use Rattle.frame.specs.Authentication2.{auth2SealRows, auth2Sealing, auth2OpenRows, auth2Accepting, auth2Opening};
+ghost use Rattle.frame.specs.Scheme.{responding};
 ghost use Rattle.frame.specs.Trimmed.{trimCount, trim, trimmedOpening};
 ghost use Rattle.frame.specs.Package.{packageCipher, packageMac, packaged, packageRows, packaging};
 
@@ -367,6 +369,20 @@ pub fn seal_des(
         length: length as u16,
         transaction_number: 0,
     }
+}
+
+// Makes a response frame under the session key.
+pub fn build_secure_response_frame_des(
+    code: u8,
+    number: u16,
+    id: &[u8],
+    key: &[u8],
+    payload: &[u8],
+    out: &mut [u8],
+) -> Answer
+    ensures { λ r. ⌜ Meets (responding 1 (now (key .entry)) code number (now (id .entry)) (now (payload .entry)) (length (now (out .entry)))) r (now (out .entry)) (now (out .exit)) ⌝ }
+{
+    secure::build_secure_response_frame(1, code, number, id, key, payload, out)
 }
 
 // 17, 10, 12 and 16 of a registration package; 0 to go on.

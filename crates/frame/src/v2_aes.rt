@@ -4,6 +4,7 @@ use crate::answer::Answer;
 use crate::deliver;
 use crate::fixed;
 use crate::number;
+use crate::secure;
 ghost use mathlib.Core.Path.{_≡_};
 ghost use Prim.Native.Nat.{_+_, _*_, _≤_};
 ghost use lib.ListN.{length};
@@ -11,6 +12,7 @@ ghost use Rattle.frame.specs.Outcome.{Meets, over};
 ghost use Rattle.frame.specs.Guards.{firstOf};
 ghost use Rattle.frame.specs.AesSteps.{aesSealRows, aesOpenRows, aesAccepting, aesTrying};
 ghost use Rattle.frame.specs.Authentication2.{auth2OpeningAes};
+ghost use Rattle.frame.specs.Scheme.{responding};
 ghost use Rattle.frame.specs.AesFrame.{cipherKey, macKey, challenge3C, aesIv, aesMac, aesSealed, aesSize, aesSealing, aesOpening};
 
 const AUTHENTICATION2_CODE: u8 = 0x43;
@@ -228,4 +230,18 @@ pub fn decrypt_authentication2_payload_v2_aes128(
     ensures { λ r. ⌜ Meets (auth2OpeningAes (now (credentials .entry)) (now (id .entry)) (now («data» .entry)) (length (now (out .entry)))) r (now (out .entry)) (now (out .exit)) ⌝ }
 {
     open_aes(AUTHENTICATION2_CODE, id, credentials, data, out)
+}
+
+// Makes a response frame.
+pub fn build_secure_response_frame_v2_aes128(
+    code: u8,
+    number: u16,
+    id: &[u8],
+    credentials: &[u8],
+    payload: &[u8],
+    out: &mut [u8],
+) -> Answer
+    ensures { λ r. ⌜ Meets (responding 2 (now (credentials .entry)) code number (now (id .entry)) (now (payload .entry)) (length (now (out .entry)))) r (now (out .entry)) (now (out .exit)) ⌝ }
+{
+    secure::build_secure_response_frame(2, code, number, id, credentials, payload, out)
 }
