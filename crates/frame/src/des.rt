@@ -279,10 +279,10 @@ fn seal_front(code: u8, key: [u8; 8], out: &mut [u8], len: usize) -> usize
 {
     let end = pad_to_des_block_size(out, len);
     let mac = calculate_command_mac_des(code, &out[..end]);
-    let size = end + 8;
-    cipher::copy(&mac, &mut out[end..size]);
-    cipher::encrypt_des_cbc_zero_iv(&mut out[..size], key);
-    size
+    let sealed = end + 8;
+    cipher::copy(&mac, &mut out[end..sealed]);
+    cipher::encrypt_des_cbc_zero_iv(&mut out[..sealed], key);
+    sealed
 }
 
 // Writes number and ID over the front of out.

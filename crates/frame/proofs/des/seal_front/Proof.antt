@@ -25,8 +25,8 @@ slice-aggregate-calculate-command-mac-des c = sym (length-take-le _ _ (slice-res
 calculate-command-mac-des-requires : tie.Need-calculate-command-mac-des-requires
 calculate-command-mac-des-requires c κs = search needs
 
-add-size : tie.Need-add-size
-add-size c = search needs
+add-sealed : tie.Need-add-sealed
+add-sealed c = search needs
 
 slice-aggregate-copy : tie.Need-slice-aggregate-copy
 slice-aggregate-copy c = search needs
@@ -85,7 +85,7 @@ seal-front-spec =
     slice-reshare-prefix-calculate-command-mac-des
     slice-aggregate-calculate-command-mac-des
     calculate-command-mac-des-requires
-    add-size
+    add-sealed
     slice-aggregate-copy
     sub-copy
     part-copy-start
