@@ -1,0 +1,4 @@
+pub mod Challenge
+pub mod Derivation
+pub mod Entries
+pub mod ServiceCode
