@@ -1,13 +1,16 @@
 #!/usr/bin/env python3
-"""Writes oracle/frames.txt: what the original answers about sealed frames.
+"""Writes crates/replay/data and crates/replay/stdout: what the original answers about sealed frames.
 
-    oracle/make_cases.py            build the oracle, check its stand-ins, write the file
-    oracle/make_cases.py --check    compare with the file that is there; status 1 where it differs
-    oracle/make_cases.py --seed 2 --out FILE    other random bytes, another file
+    oracle/make_cases.py            build the oracle, check its stand-ins, write the files
+    oracle/make_cases.py --check    compare with the files that are there; status 1 where one differs
+    oracle/make_cases.py --seed 2 --out DIR     other random bytes, another folder
 
 The cases are the same in every run with the same seed. Each is put to the original. Where document 01 turns
 down a length that the original takes, the case has document 01's answer, ends in `departs`, and stands below
 a comment with the original's own answer. Any other difference from document 01 stops the run.
+
+stdout is what crates/replay has to print where every case agrees. Its counts are those of the lines, and its
+CMACs are the stand-ins': no run of the program goes into it.
 """
 import argparse
 import hashlib
@@ -16,31 +19,35 @@ import subprocess
 import sys
 
 sys.dont_write_bytecode = True
-from original import HERE, Original, answer, refusal, text
+from original import HERE, ROOT, Original, answer, refusal, text
 
 DES, AES = 1, 2
-OUT = os.path.join(HERE, "frames.txt")
+OUT = os.path.join(ROOT, "crates", "replay")
 OTHERS = 130
+FILE_MOST = 65535  # bytes of a file that the program has room for
 HEAD = """\
-# Answers of the original Rust (felica-rs, commit f0cb61fbbd) about sealed frames
-# Written by oracle/make_cases.py, seed {seed}: {cases} cases. Not to be edited by hand.
-#
-# A line is a case: the operation, its inputs, the answer, parted by single blanks. Byte strings are in hex,
-# with '-' for the empty one, and numbers in decimal. An answer starts with document 01's number, 0 for
-# acceptance. A line that starts with '#' is a comment.
-#
-#   seal <scheme> <code> <number> <ID> <credentials> <payload>     <answer> <sealed data>
-#   frame <scheme> <code> <number> <ID> <credentials> <payload>    <answer> <response frame>
-#   open <scheme> <code> <ID> <credentials> <data>                 <answer> <number> <payload>
-#   auth2seal <key> <payload>                                      <answer> <sealed data>
-#   auth2open_des <key> <data>                                     <answer> <all but the MAC>
-#   auth2open_aes <ID> <credentials> <data>                        <answer> <number> <payload>
-#   package <key> <plain>                                          <answer> <package>
-#
-# Scheme: 1 DES, 2 AES. Credentials: DES session key (8 bytes), or cipher key, MAC key, Challenge 3C (36).
-# A last field 'departs' marks an answer that is document 01's and not the original's: the original takes the
-# length. The comment above has what it answers.
+# {title}
+# Answers of the original Rust (felica-rs, commit f0cb61fbbd). Written by oracle/make_cases.py, seed {seed}.
+# {fields}
 """
+# The files: what a case of each is, and its fields. oracle/README.md says what the fields are.
+SEAL = "<scheme> <code> <number> <ID> <credentials> <payload> <answer>"
+OPEN = "<scheme> <code> <ID> <credentials> <data> <answer> <number> <payload>"
+FILES = {
+    "seal_des": ("Sealing, DES", f"seal {SEAL} <sealed data>"),
+    "seal_aes": ("Sealing, AES", f"seal {SEAL} <sealed data>"),
+    "frame_des": ("Response frames, DES", f"frame {SEAL} <response frame>"),
+    "frame_aes": ("Response frames, AES", f"frame {SEAL} <response frame>"),
+    "open_des": ("Opening, DES", f"open {OPEN}"),
+    "open_aes": ("Opening, AES", f"open {OPEN}"),
+    "auth2seal": ("Authentication 2, DES: sealing", "auth2seal <key> <payload> <answer> <sealed data>"),
+    "auth2open_des": ("Authentication 2, DES: opening", "auth2open_des <key> <data> <answer> <all but the MAC>"),
+    "auth2open_aes": (
+        "Authentication 2, AES: opening",
+        "auth2open_aes <ID> <credentials> <data> <answer> <number> <payload>",
+    ),
+    "package": ("Registration packages, DES", "package <key> <plain> <answer> <package>"),
+}
 
 
 class Random:
@@ -60,32 +67,78 @@ class Random:
         return values[self.below(len(values))]
 
 
+def file_of(operation, inputs):
+    """The name of the file that a case goes to."""
+    if operation in ("seal", "frame", "open"):
+        return f"{operation}_{'des' if inputs[0] == DES else 'aes'}"
+    return operation
+
+
 class Cases:
     def __init__(self, original):
-        self.original, self.lines, self.count = original, [], {}
+        self.original, self.heading, self.count = original, "", {}
+        # By file, the cases in their order: the heading of the group, the lines (comments, then the case).
+        self.cases = {name: [] for name in FILES}
 
     def group(self, heading):
-        self.lines.append(f"# {heading}")
+        self.heading = f"# {heading}"
 
     def add(self, operation, *inputs, expect=None):
         """Puts a case to the original and stores it. `expect` is the number that the caller foresees."""
         own = answer(operation, self.original.ask(operation, *inputs))
         wanted = by_length(operation, inputs)
         stored = refusal(operation, wanted) if wanted else own
-        line = [text(f) for f in (operation, *inputs, *stored)]
+        line, lines = [text(f) for f in (operation, *inputs, *stored)], []
         if stored != own:
             if not may_depart(operation, inputs):
                 raise SystemExit(f"document 01 says {wanted}, the original {own[0]}: {' '.join(line)}")
-            self.lines.append("# the original answers " + " ".join(text(f) for f in own))
+            lines.append("# the original answers " + " ".join(text(f) for f in own))
             line.append("departs")
         if expect is not None and stored[0] != expect:
             raise SystemExit(f"{expect} was foreseen: {' '.join(line)}")
-        self.lines.append(" ".join(line))
+        self.cases[file_of(operation, inputs)].append((self.heading, lines + [" ".join(line)]))
         self.count[operation] = self.count.get(operation, 0) + 1
         return stored
 
     def total(self):
         return sum(self.count.values())
+
+    def departing(self):
+        return sum(lines[-1].endswith(" departs") for cases in self.cases.values() for _, lines in cases)
+
+    def parts(self, name, room):
+        """The texts of a file's parts, none longer than the room, and how many cases each has."""
+        out, heading = [], None
+        for own, lines in self.cases[name]:
+            more = "".join(line + "\n" for line in lines)
+            if not out or len(out[-1][0]) + len(own) + 1 + len(more) > room:
+                out.append(["", 0])
+                heading = None
+            out[-1][0] += more if own == heading else f"{own}\n{more}"
+            out[-1][1] += 1
+            heading = own
+        return out
+
+    def files(self, seed):
+        """Each file's path below crates/replay, and its text."""
+        rows, total = ["   ran  agreed  file mac  set"], 0
+        for name, (title, fields) in FILES.items():
+            head = lambda t: HEAD.format(title=t, seed=seed, fields=fields)
+            longest = len(head(f"{title}, part 9 of 9"))
+            parts = self.parts(name, FILE_MOST - longest)
+            for i, (body, count) in enumerate(parts, 1):
+                one = len(parts) == 1
+                own = title if one else f"{title}, part {i} of {len(parts)}"
+                made = head(own) + body
+                assert len(made) <= FILE_MOST and len(parts) <= 9, name
+                mac = self.original.cmac(bytes(16), made.encode())[:4].hex()
+                rows.append(f"{count:6}  {count:6}  {mac}  {own}")
+                total += count
+                yield f"data/{name}.txt" if one else f"data/{name}_{i}.txt", made
+        assert total == self.total()
+        rows.append(f"{total:6}  {total:6}            all sets")
+        rows.append(f"        {self.departing():6}            of them depart from the original")
+        yield "stdout", "\n".join(rows) + "\n"
 
 
 def by_length(operation, inputs):
@@ -517,9 +570,20 @@ class Groups:
         return fixed
 
 
+def differing(files, folder):
+    """The files that are not there, or not the same, and those in data that are none of them."""
+    for name, made in files.items():
+        path = os.path.join(folder, name)
+        if not os.path.exists(path) or open(path).read() != made:
+            yield name
+    for name in sorted(os.listdir(os.path.join(folder, "data"))):
+        if f"data/{name}" not in files:
+            yield f"data/{name}"
+
+
 def main():
     options = argparse.ArgumentParser(description="Writes the original's answers about sealed frames.")
-    options.add_argument("--check", action="store_true", help="compare with the file that is there")
+    options.add_argument("--check", action="store_true", help="compare with the files that are there")
     options.add_argument("--seed", type=int, default=1)
     options.add_argument("--out", default=OUT)
     options = options.parse_args()
@@ -527,18 +591,22 @@ def main():
     groups = Groups(Original(), options.seed)
     fixed = groups.all()
     cases = groups.cases
-    made = HEAD.format(seed=options.seed, cases=cases.total()) + "\n".join(cases.lines) + "\n"
+    files = dict(cases.files(options.seed))
     for operation, count in cases.count.items():
         print(f"{count:6}  {operation}")
-    departing = sum(line.endswith(" departs") for line in cases.lines)
-    print(f"{cases.total():6}  in all, {cases.total() - fixed} of them random others, {departing} depart; {len(made)} bytes")
+    size = sum(len(made) for name, made in files.items() if name != "stdout")
+    others = cases.total() - fixed
+    print(f"{cases.total():6}  in all, {others} of them random others, {cases.departing()} depart; {size} bytes")
     if options.check:
-        with open(options.out) as file:
-            same = file.read() == made
-        print("the file is the same" if same else "the file differs")
-        sys.exit(0 if same else 1)
-    with open(options.out, "w") as file:
-        file.write(made)
+        differ = list(differing(files, options.out))
+        for name in differ:
+            print(f"{name} differs")
+        print("the files differ" if differ else "the files are the same")
+        sys.exit(1 if differ else 0)
+    os.makedirs(os.path.join(options.out, "data"), exist_ok=True)
+    for name, made in files.items():
+        with open(os.path.join(options.out, name), "w") as file:
+            file.write(made)
 
 
 if __name__ == "__main__":

@@ -1,5 +1,5 @@
 // One line of a data file, run through `cipher` in every direction that it has.
-use crate::text;
+use textfile::Verdict;
 
 // What the four fields of a set's lines are.
 pub(crate) enum Kind {
@@ -17,13 +17,6 @@ pub(crate) enum Kind {
     Cmac,
 }
 
-pub(crate) enum Verdict {
-    Comment,
-    Agrees,
-    Differs,
-    Malformed,
-}
-
 pub(crate) fn run(kind: Kind, line: &[u8]) -> Verdict {
     if line.len() == 0 {
         return Verdict::Malformed;
@@ -31,7 +24,7 @@ pub(crate) fn run(kind: Kind, line: &[u8]) -> Verdict {
     if line[0] == b'#' {
         return Verdict::Comment;
     }
-    if text::blanks(line) != 3 {
+    if textfile::blanks(line) != 3 {
         return Verdict::Malformed;
     }
     match kind {
@@ -72,16 +65,16 @@ fn aes(line: &[u8]) -> Verdict {
     let mut key = [0u8; 16];
     let mut plain = [0u8; 16];
     let mut sealed = [0u8; 16];
-    if text::decode(line, 0, &mut key) != 16 {
+    if textfile::decode(line, 0, &mut key) != 16 {
         return Verdict::Malformed;
     }
-    if !text::is_none(text::field(line, 1)) {
+    if !textfile::is_none(textfile::field(line, 1)) {
         return Verdict::Malformed;
     }
-    if text::decode(line, 2, &mut plain) != 16 {
+    if textfile::decode(line, 2, &mut plain) != 16 {
         return Verdict::Malformed;
     }
-    if text::decode(line, 3, &mut sealed) != 16 {
+    if textfile::decode(line, 3, &mut sealed) != 16 {
         return Verdict::Malformed;
     }
     judged(aes_agrees(key, plain, sealed))
@@ -99,16 +92,16 @@ fn des(line: &[u8]) -> Verdict {
     let mut key = [0u8; 8];
     let mut plain = [0u8; 8];
     let mut sealed = [0u8; 8];
-    if text::decode(line, 0, &mut key) != 8 {
+    if textfile::decode(line, 0, &mut key) != 8 {
         return Verdict::Malformed;
     }
-    if !text::is_none(text::field(line, 1)) {
+    if !textfile::is_none(textfile::field(line, 1)) {
         return Verdict::Malformed;
     }
-    if text::decode(line, 2, &mut plain) != 8 {
+    if textfile::decode(line, 2, &mut plain) != 8 {
         return Verdict::Malformed;
     }
-    if text::decode(line, 3, &mut sealed) != 8 {
+    if textfile::decode(line, 3, &mut sealed) != 8 {
         return Verdict::Malformed;
     }
     if !des_agrees(key, plain, sealed) {
@@ -129,16 +122,16 @@ fn tdes(line: &[u8]) -> Verdict {
     let mut key2 = [0u8; 8];
     let mut plain = [0u8; 8];
     let mut sealed = [0u8; 8];
-    if text::decode(line, 0, &mut key1) != 8 {
+    if textfile::decode(line, 0, &mut key1) != 8 {
         return Verdict::Malformed;
     }
-    if text::decode(line, 1, &mut key2) != 8 {
+    if textfile::decode(line, 1, &mut key2) != 8 {
         return Verdict::Malformed;
     }
-    if text::decode(line, 2, &mut plain) != 8 {
+    if textfile::decode(line, 2, &mut plain) != 8 {
         return Verdict::Malformed;
     }
-    if text::decode(line, 3, &mut sealed) != 8 {
+    if textfile::decode(line, 3, &mut sealed) != 8 {
         return Verdict::Malformed;
     }
     judged(tdes_agrees(key1, key2, plain, sealed))
@@ -156,14 +149,14 @@ fn cbc(line: &[u8]) -> Verdict {
     let mut iv = [0u8; 8];
     let mut plain = [0u8; 256];
     let mut sealed = [0u8; 256];
-    if text::decode(line, 0, &mut key) != 8 {
+    if textfile::decode(line, 0, &mut key) != 8 {
         return Verdict::Malformed;
     }
-    if text::decode(line, 1, &mut iv) != 8 {
+    if textfile::decode(line, 1, &mut iv) != 8 {
         return Verdict::Malformed;
     }
-    let n = text::decode(line, 2, &mut plain);
-    let m = text::decode(line, 3, &mut sealed);
+    let n = textfile::decode(line, 2, &mut plain);
+    let m = textfile::decode(line, 3, &mut sealed);
     if n > 256 {
         return Verdict::Malformed;
     }
@@ -213,14 +206,14 @@ fn ofb(line: &[u8]) -> Verdict {
     let mut iv = [0u8; 16];
     let mut plain = [0u8; 256];
     let mut sealed = [0u8; 256];
-    if text::decode(line, 0, &mut key) != 16 {
+    if textfile::decode(line, 0, &mut key) != 16 {
         return Verdict::Malformed;
     }
-    if text::decode(line, 1, &mut iv) != 16 {
+    if textfile::decode(line, 1, &mut iv) != 16 {
         return Verdict::Malformed;
     }
-    let n = text::decode(line, 2, &mut plain);
-    let m = text::decode(line, 3, &mut sealed);
+    let n = textfile::decode(line, 2, &mut plain);
+    let m = textfile::decode(line, 3, &mut sealed);
     if n > 256 {
         return Verdict::Malformed;
     }
@@ -244,17 +237,17 @@ fn cmac(line: &[u8]) -> Verdict {
     let mut key = [0u8; 16];
     let mut message = [0u8; 256];
     let mut mac = [0u8; 16];
-    if text::decode(line, 0, &mut key) != 16 {
+    if textfile::decode(line, 0, &mut key) != 16 {
         return Verdict::Malformed;
     }
-    if !text::is_none(text::field(line, 1)) {
+    if !textfile::is_none(textfile::field(line, 1)) {
         return Verdict::Malformed;
     }
-    let n = text::decode(line, 2, &mut message);
+    let n = textfile::decode(line, 2, &mut message);
     if n > 256 {
         return Verdict::Malformed;
     }
-    if text::decode(line, 3, &mut mac) != 16 {
+    if textfile::decode(line, 3, &mut mac) != 16 {
         return Verdict::Malformed;
     }
     judged(same16(cipher::aes128_cmac(&message[0..n], key), mac))

@@ -1,11 +1,11 @@
--- `vectors::text::field` is safe and ends. The field that is being passed starts at or before the index, and the index is at most the length.
+-- `textfile::text::field` is safe and ends. The field that is being passed starts at or before the index, and the index is at most the length.
 -- The measure is what is left of the length. Assumes nothing.
 use Prim.Native.Nat.{_≤_, _-_}
 use native.Mathlib.Omega.{arith}
 use lib.ListN.{length}
 use mathlib.Core.Logic.{⊎-elim}
-use Rattle.vectors.proofs.text.field.Statement.{statement}
-use Rattle.vectors.proofs.text.field.Tie as tie
+use Rattle.textfile.proofs.text.field.Statement.{statement}
+use Rattle.textfile.proofs.text.field.Tie as tie
 
 abbrev Inv-loop : tie.InvT-loop
 Inv-loop line k left₀ from₀ i₀ left from i = (from ≤ i) × (i ≤ length line)

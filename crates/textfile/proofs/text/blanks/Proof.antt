@@ -1,11 +1,11 @@
--- `vectors::text::blanks` is safe and ends. The count is at most the index, and the index at most the length.
+-- `textfile::text::blanks` is safe and ends. The count is at most the index, and the index at most the length.
 -- The measure is what is left of the length. Assumes nothing.
 use Prim.Native.Nat.{_≤_, _-_}
 use native.Mathlib.Omega.{arith}
 use lib.ListN.{length}
 use mathlib.Core.Logic.{⊎-elim}
-use Rattle.vectors.proofs.text.blanks.Statement.{statement}
-use Rattle.vectors.proofs.text.blanks.Tie as tie
+use Rattle.textfile.proofs.text.blanks.Statement.{statement}
+use Rattle.textfile.proofs.text.blanks.Tie as tie
 
 abbrev Inv-loop : tie.InvT-loop
 Inv-loop line n₀ i₀ n i = (i ≤ length line) × (n ≤ i)

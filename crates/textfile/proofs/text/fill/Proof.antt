@@ -1,12 +1,12 @@
--- `vectors::text::fill` is safe and ends. The output keeps its length, and the index is at most the number of bytes asked.
+-- `textfile::text::fill` is safe and ends. The output keeps its length, and the index is at most the number of bytes asked.
 -- The measure is the number of bytes left. Assumes nothing.
 use Prim.Native.Nat.{_≤_, _-_}
 use native.Mathlib.Omega.{arith}
 use lib.ListN.{length, length-set}
 use mathlib.Core.Path.{_≡_}
 use borrow.Author.Needs.{needs}
-use Rattle.vectors.proofs.text.fill.Statement.{statement}
-use Rattle.vectors.proofs.text.fill.Tie as tie
+use Rattle.textfile.proofs.text.fill.Statement.{statement}
+use Rattle.textfile.proofs.text.fill.Tie as tie
 
 abbrev Inv-loop : tie.InvT-loop
 Inv-loop text n out₀ i₀ out i = (length out ≡ length out₀) × (i ≤ n)

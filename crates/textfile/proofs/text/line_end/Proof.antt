@@ -1,10 +1,10 @@
--- `vectors::text::line_end` is safe, ends and answers within the text: the index lies between where the line starts and the length.
+-- `textfile::text::line_end` is safe, ends and answers within the text: the index lies between where the line starts and the length.
 -- The measure is what is left of the length. Assumes nothing.
 use Prim.Native.Nat.{_≤_, _-_}
 use lib.ListN.{length}
 use borrow.Author.Needs.{needs}
-use Rattle.vectors.proofs.text.line_end.Statement.{statement}
-use Rattle.vectors.proofs.text.line_end.Tie as tie
+use Rattle.textfile.proofs.text.line_end.Statement.{statement}
+use Rattle.textfile.proofs.text.line_end.Tie as tie
 
 abbrev Inv-loop : tie.InvT-loop
 Inv-loop text from i₀ i = (from ≤ i) × (i ≤ length text)
