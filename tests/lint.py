@@ -17,6 +17,8 @@ SYMBOLS = ["_≡_", "_<_", "_≤_", "length", "take", "drop", "getD", "_++_"]
 # where they come from
 KIT = ("mathlib.", "Prim.", "lib.", "native.", "borrow.", "denote.", "mir.")
 LAYERS = ["cipher", "frame", "session"]
+# how the definitions of both upper crates say what a call answers: words, not operations
+WORDS = ["Outcome", "Tests", "Guards", "Number", "Packed"]
 faults = []
 
 
@@ -102,15 +104,15 @@ def tables(path):
         fault("table-in-specs", path, line_of(s, m.start()), "a list of more than 64 numbers")
 
 
-# An upper crate opens no definition of a lower one: it goes by the lower crate's laws.
+# An upper crate opens no definition of a lower one: it goes by the lower crate's laws. The words of outcomes are free.
 def layers(path, crate):
     if crate not in LAYERS:
         return
     s = text(path)
     lower = set()
-    for m in re.finditer(r"^use Rattle·(\w+)\.specs\.\S+?\.\{([^}]*)\}", s, re.M):
-        if m.group(1) in LAYERS and LAYERS.index(m.group(1)) < LAYERS.index(crate):
-            lower |= {n.split(" as ")[-1].strip() for n in m.group(2).split(",")}
+    for m in re.finditer(r"^use Rattle·(\w+)\.specs\.(\S+?)\.\{([^}]*)\}", s, re.M):
+        if m.group(1) in LAYERS and LAYERS.index(m.group(1)) < LAYERS.index(crate) and m.group(2) not in WORDS:
+            lower |= {n.split(" as ")[-1].strip() for n in m.group(3).split(",")}
     for m in re.finditer(r"^\s*unfolding ([^\n]*)", s, re.M):
         for name in m.group(1).split():
             if name in lower or re.match(r"Rattle·(\w+)\.specs\.", name):
