@@ -1,6 +1,6 @@
 // nettle: DES in portable C. Its AES uses the processor's AES instructions where there are any, unless
 // the variable NETTLE_FAT_OVERRIDE turns them off; it is then assembly with tables.
-#include "bench.h"
+#include "peer.h"
 
 #include <nettle/aes.h>
 #include <nettle/cbc.h>
@@ -40,28 +40,30 @@ static void aes_chain(const struct input *in, uint8_t *out)
 }
 
 // nettle has no OFB, so this is one over its block function and its exclusive or.
-static void aes_ofb(const struct input *in, uint8_t *out)
+static void mode_ofb(const uint8_t *key, const uint8_t *iv, const struct part *parts, int count)
 {
     struct aes128_ctx k;
     uint8_t state[AES_BLOCK];
 
-    aes128_set_encrypt_key(&k, in->key);
-    memcpy(state, in->iv, AES_BLOCK);
-    for (size_t at = 0; at < AES_TEXT; at += AES_BLOCK) {
-        size_t left = AES_TEXT - at;
+    aes128_set_encrypt_key(&k, key);
+    memcpy(state, iv, AES_BLOCK);
+    for (int i = 0; i < count; i++) {
+        for (size_t at = 0; at < parts[i].n; at += AES_BLOCK) {
+            size_t left = parts[i].n - at;
 
-        aes128_encrypt(&k, AES_BLOCK, state, state);
-        memxor3(out + at, in->text + at, state, left < AES_BLOCK ? left : AES_BLOCK);
+            aes128_encrypt(&k, AES_BLOCK, state, state);
+            memxor3(parts[i].out + at, parts[i].text + at, state, left < AES_BLOCK ? left : AES_BLOCK);
+        }
     }
 }
 
-static void aes_cmac(const struct input *in, uint8_t *out)
+static void mode_cmac(const uint8_t *key, const uint8_t *text, size_t n, uint8_t *mac)
 {
-    struct cmac_aes128_ctx mac;
+    struct cmac_aes128_ctx k;
 
-    cmac_aes128_set_key(&mac, in->key);
-    cmac_aes128_update(&mac, AES_TEXT, in->text);
-    cmac_aes128_digest(&mac, AES_BLOCK, out);
+    cmac_aes128_set_key(&k, key);
+    cmac_aes128_update(&k, n, text);
+    cmac_aes128_digest(&k, AES_BLOCK, mac);
 }
 
 static void des_block(const struct input *in, uint8_t *out)
@@ -80,53 +82,41 @@ static void des_block_back(const struct input *in, uint8_t *out)
     des_decrypt(&k, DES_BLOCK, out, in->text);
 }
 
-static void run_cbc(const struct input *in, uint8_t *out, size_t n)
+static void mode_cbc(const uint8_t *key, const uint8_t *text, size_t n, uint8_t *out)
 {
     struct des_ctx k;
     uint8_t state[DES_BLOCK] = {0};
 
-    des_set_key(&k, in->key);
-    cbc_encrypt(&k, (nettle_cipher_func *)des_encrypt, DES_BLOCK, state, n, out, in->text);
+    des_set_key(&k, key);
+    cbc_encrypt(&k, (nettle_cipher_func *)des_encrypt, DES_BLOCK, state, n, out, text);
 }
 
-static void des_chain(const struct input *in, uint8_t *out)
-{
-    run_cbc(in, out, LONG_TEXT);
-}
-
-static void cbc(const struct input *in, uint8_t *out)
-{
-    run_cbc(in, out, DES_TEXT);
-}
-
-static void cbc_back(const struct input *in, uint8_t *out)
+static void mode_cbc_back(const uint8_t *key, const uint8_t *text, size_t n, uint8_t *out)
 {
     struct des_ctx k;
     uint8_t state[DES_BLOCK] = {0};
 
-    des_set_key(&k, in->key);
-    cbc_decrypt(&k, (nettle_cipher_func *)des_decrypt, DES_BLOCK, state, DES_TEXT, out, in->text);
+    des_set_key(&k, key);
+    cbc_decrypt(&k, (nettle_cipher_func *)des_decrypt, DES_BLOCK, state, n, out, text);
 }
 
-static void fold(const struct input *in, uint8_t *out)
+static void mode_fold(const uint8_t *keys, size_t n, uint8_t *block)
 {
     struct des_ctx k;
 
-    memcpy(out, in->iv, DES_BLOCK);
-    for (int at = 0; at < DES_TEXT; at += DES_BLOCK) {
-        des_set_key(&k, in->text + at);
-        des_encrypt(&k, DES_BLOCK, out, out);
+    for (size_t at = 0; at < n; at += DES_BLOCK) {
+        des_set_key(&k, keys + at);
+        des_encrypt(&k, DES_BLOCK, block, block);
     }
 }
 
-static void fold_back(const struct input *in, uint8_t *out)
+static void mode_fold_back(const uint8_t *keys, size_t n, uint8_t *block)
 {
     struct des_ctx k;
 
-    memcpy(out, in->iv, DES_BLOCK);
-    for (int at = DES_TEXT - DES_BLOCK; at >= 0; at -= DES_BLOCK) {
-        des_set_key(&k, in->text + at);
-        des_decrypt(&k, DES_BLOCK, out, out);
+    for (size_t at = n; at > 0; at -= DES_BLOCK) {
+        des_set_key(&k, keys + at - DES_BLOCK);
+        des_decrypt(&k, DES_BLOCK, block, block);
     }
 }
 

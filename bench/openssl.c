@@ -2,7 +2,7 @@
 // use the processor's AES instructions. They are deprecated in favour of EVP, whose calls cost more
 // than a block; for a comparison of ciphers they are the stronger opponent.
 #define OPENSSL_SUPPRESS_DEPRECATED
-#include "bench.h"
+#include "peer.h"
 
 #include <openssl/aes.h>
 #include <openssl/des.h>
@@ -38,15 +38,18 @@ static void aes_chain(const struct input *in, uint8_t *out)
         AES_encrypt(out, out, &k);
 }
 
-static void aes_ofb(const struct input *in, uint8_t *out)
+static void mode_ofb(const uint8_t *key, const uint8_t *iv, const struct part *parts, int count)
 {
     AES_KEY k;
     uint8_t state[AES_BLOCK];
-    int used = 0;
 
-    AES_set_encrypt_key(in->key, 128, &k);
-    memcpy(state, in->iv, AES_BLOCK);
-    AES_ofb128_encrypt(in->text, out, AES_TEXT, &k, state, &used);
+    AES_set_encrypt_key(key, 128, &k);
+    memcpy(state, iv, AES_BLOCK);
+    for (int i = 0; i < count; i++) {
+        int used = 0;
+
+        AES_ofb128_encrypt(parts[i].text, parts[i].out, parts[i].n, &k, state, &used);
+    }
 }
 
 // The next subkey of CMAC: x shifted by a bit, and 0x87 added where a bit fell out.
@@ -65,27 +68,28 @@ static void add_bytes(uint8_t *to, const uint8_t *from, size_t n)
         to[i] ^= from[i];
 }
 
-// The low-level functions have no CMAC, so this is one over AES_encrypt, for a text whose last
-// block is short.
-static void aes_cmac(const struct input *in, uint8_t *out)
+// The low-level functions have no CMAC, so this is one over AES_encrypt.
+static void mode_cmac(const uint8_t *key, const uint8_t *text, size_t n, uint8_t *mac)
 {
     AES_KEY k;
     uint8_t subkey[AES_BLOCK] = {0};
-    const size_t last = AES_TEXT / AES_BLOCK * AES_BLOCK;
+    const size_t last = (n - 1) / AES_BLOCK * AES_BLOCK;
 
-    AES_set_encrypt_key(in->key, 128, &k);
+    AES_set_encrypt_key(key, 128, &k);
     AES_encrypt(subkey, subkey, &k);
     double_subkey(subkey);
-    double_subkey(subkey);
-    memset(out, 0, AES_BLOCK);
+    memset(mac, 0, AES_BLOCK);
     for (size_t at = 0; at < last; at += AES_BLOCK) {
-        add_bytes(out, in->text + at, AES_BLOCK);
-        AES_encrypt(out, out, &k);
+        add_bytes(mac, text + at, AES_BLOCK);
+        AES_encrypt(mac, mac, &k);
     }
-    add_bytes(out, in->text + last, AES_TEXT - last);
-    out[AES_TEXT - last] ^= 0x80;
-    add_bytes(out, subkey, AES_BLOCK);
-    AES_encrypt(out, out, &k);
+    add_bytes(mac, text + last, n - last);
+    if (n - last < AES_BLOCK) {
+        mac[n - last] ^= 0x80;
+        double_subkey(subkey);
+    }
+    add_bytes(mac, subkey, AES_BLOCK);
+    AES_encrypt(mac, mac, &k);
 }
 
 // OpenSSL's types for a block lack the const of what is only read.
@@ -110,49 +114,42 @@ static void des_block_back(const struct input *in, uint8_t *out)
     DES_ecb_encrypt(block_of(in->text), block_of(out), &k, DES_DECRYPT);
 }
 
-static void run_cbc(const struct input *in, uint8_t *out, long n, int way)
+static void run_cbc(const uint8_t *key, const uint8_t *text, size_t n, uint8_t *out, int way)
 {
     DES_key_schedule k;
     DES_cblock state = {0};
 
-    DES_set_key_unchecked(block_of(in->key), &k);
-    DES_ncbc_encrypt(in->text, out, n, &k, &state, way);
+    DES_set_key_unchecked(block_of(key), &k);
+    DES_ncbc_encrypt(text, out, (long)n, &k, &state, way);
 }
 
-static void des_chain(const struct input *in, uint8_t *out)
+static void mode_cbc(const uint8_t *key, const uint8_t *text, size_t n, uint8_t *out)
 {
-    run_cbc(in, out, LONG_TEXT, DES_ENCRYPT);
+    run_cbc(key, text, n, out, DES_ENCRYPT);
 }
 
-static void cbc(const struct input *in, uint8_t *out)
+static void mode_cbc_back(const uint8_t *key, const uint8_t *text, size_t n, uint8_t *out)
 {
-    run_cbc(in, out, DES_TEXT, DES_ENCRYPT);
+    run_cbc(key, text, n, out, DES_DECRYPT);
 }
 
-static void cbc_back(const struct input *in, uint8_t *out)
-{
-    run_cbc(in, out, DES_TEXT, DES_DECRYPT);
-}
-
-static void fold(const struct input *in, uint8_t *out)
+static void mode_fold(const uint8_t *keys, size_t n, uint8_t *block)
 {
     DES_key_schedule k;
 
-    memcpy(out, in->iv, DES_BLOCK);
-    for (int at = 0; at < DES_TEXT; at += DES_BLOCK) {
-        DES_set_key_unchecked(block_of(in->text + at), &k);
-        DES_ecb_encrypt(block_of(out), block_of(out), &k, DES_ENCRYPT);
+    for (size_t at = 0; at < n; at += DES_BLOCK) {
+        DES_set_key_unchecked(block_of(keys + at), &k);
+        DES_ecb_encrypt(block_of(block), block_of(block), &k, DES_ENCRYPT);
     }
 }
 
-static void fold_back(const struct input *in, uint8_t *out)
+static void mode_fold_back(const uint8_t *keys, size_t n, uint8_t *block)
 {
     DES_key_schedule k;
 
-    memcpy(out, in->iv, DES_BLOCK);
-    for (int at = DES_TEXT - DES_BLOCK; at >= 0; at -= DES_BLOCK) {
-        DES_set_key_unchecked(block_of(in->text + at), &k);
-        DES_ecb_encrypt(block_of(out), block_of(out), &k, DES_DECRYPT);
+    for (size_t at = n; at > 0; at -= DES_BLOCK) {
+        DES_set_key_unchecked(block_of(keys + at - DES_BLOCK), &k);
+        DES_ecb_encrypt(block_of(block), block_of(block), &k, DES_DECRYPT);
     }
 }
 

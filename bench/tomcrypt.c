@@ -1,5 +1,5 @@
 // libtomcrypt: portable C throughout, with its own modes.
-#include "bench.h"
+#include "peer.h"
 
 #include <string.h>
 #include <tomcrypt.h>
@@ -43,20 +43,24 @@ static void aes_chain(const struct input *in, uint8_t *out)
         aes_enc_ecb_encrypt(out, out, &k);
 }
 
-static void aes_ofb(const struct input *in, uint8_t *out)
+// A part starts at a block boundary where no byte of the block before it is left over.
+static void mode_ofb(const uint8_t *key, const uint8_t *iv, const struct part *parts, int count)
 {
     symmetric_OFB mode;
 
-    ofb_start(aes, in->iv, in->key, AES_BLOCK, 0, &mode);
-    ofb_encrypt(in->text, out, AES_TEXT, &mode);
+    ofb_start(aes, iv, key, AES_BLOCK, 0, &mode);
+    for (int i = 0; i < count; i++) {
+        mode.padlen = mode.blocklen;
+        ofb_encrypt(parts[i].text, parts[i].out, parts[i].n, &mode);
+    }
     ofb_done(&mode);
 }
 
-static void aes_cmac(const struct input *in, uint8_t *out)
+static void mode_cmac(const uint8_t *key, const uint8_t *text, size_t n, uint8_t *mac)
 {
-    unsigned long n = AES_BLOCK;
+    unsigned long mac_n = AES_BLOCK;
 
-    omac_memory(aes, in->key, AES_BLOCK, in->text, AES_TEXT, out, &n);
+    omac_memory(aes, key, AES_BLOCK, text, n, mac, &mac_n);
 }
 
 static void des_block(const struct input *in, uint8_t *out)
@@ -75,53 +79,41 @@ static void des_block_back(const struct input *in, uint8_t *out)
     des_ecb_decrypt(in->text, out, &k);
 }
 
-static void encrypt_cbc(const struct input *in, uint8_t *out, unsigned long n)
+static void mode_cbc(const uint8_t *key, const uint8_t *text, size_t n, uint8_t *out)
 {
     symmetric_CBC mode;
 
-    cbc_start(des, zero, in->key, DES_BLOCK, 0, &mode);
-    cbc_encrypt(in->text, out, n, &mode);
+    cbc_start(des, zero, key, DES_BLOCK, 0, &mode);
+    cbc_encrypt(text, out, n, &mode);
     cbc_done(&mode);
 }
 
-static void des_chain(const struct input *in, uint8_t *out)
-{
-    encrypt_cbc(in, out, LONG_TEXT);
-}
-
-static void cbc(const struct input *in, uint8_t *out)
-{
-    encrypt_cbc(in, out, DES_TEXT);
-}
-
-static void cbc_back(const struct input *in, uint8_t *out)
+static void mode_cbc_back(const uint8_t *key, const uint8_t *text, size_t n, uint8_t *out)
 {
     symmetric_CBC mode;
 
-    cbc_start(des, zero, in->key, DES_BLOCK, 0, &mode);
-    cbc_decrypt(in->text, out, DES_TEXT, &mode);
+    cbc_start(des, zero, key, DES_BLOCK, 0, &mode);
+    cbc_decrypt(text, out, n, &mode);
     cbc_done(&mode);
 }
 
-static void fold(const struct input *in, uint8_t *out)
+static void mode_fold(const uint8_t *keys, size_t n, uint8_t *block)
 {
     symmetric_key k;
 
-    memcpy(out, in->iv, DES_BLOCK);
-    for (int at = 0; at < DES_TEXT; at += DES_BLOCK) {
-        des_setup(in->text + at, DES_BLOCK, 0, &k);
-        des_ecb_encrypt(out, out, &k);
+    for (size_t at = 0; at < n; at += DES_BLOCK) {
+        des_setup(keys + at, DES_BLOCK, 0, &k);
+        des_ecb_encrypt(block, block, &k);
     }
 }
 
-static void fold_back(const struct input *in, uint8_t *out)
+static void mode_fold_back(const uint8_t *keys, size_t n, uint8_t *block)
 {
     symmetric_key k;
 
-    memcpy(out, in->iv, DES_BLOCK);
-    for (int at = DES_TEXT - DES_BLOCK; at >= 0; at -= DES_BLOCK) {
-        des_setup(in->text + at, DES_BLOCK, 0, &k);
-        des_ecb_decrypt(out, out, &k);
+    for (size_t at = n; at > 0; at -= DES_BLOCK) {
+        des_setup(keys + at - DES_BLOCK, DES_BLOCK, 0, &k);
+        des_ecb_decrypt(block, block, &k);
     }
 }
 
