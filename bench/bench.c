@@ -5,7 +5,8 @@
 //                                        and the blocks that its cost is divided by, parted by tabs
 //     bench --count ROW CONTESTANT N     run that operation N times and print nothing, for bench/count
 //
-// The status is 1 where two contestants differ in a result, and 2 for a wrong call.
+// The status is 1 where two contestants differ in a result or one opens a frame that was changed, and 2 for
+// a wrong call.
 #define _POSIX_C_SOURCE 200809L
 #include "bench.h"
 
@@ -26,26 +27,45 @@ enum {
 // Ours stands first. All results are compared with those of the first peer.
 static const struct contestant *const contestants[CONTESTANTS] = {&ours, &tomcrypt, &openssl, &nettle};
 
-// A row's name, what it measures, the length of a result, and the blocks that its time is divided by.
+// A row's name, what it measures, the length of a result, and the blocks that its time is divided by; for
+// frames the payload's length, and for an opening the row that seals it. Row 0 seals nothing: 0 is for none.
 static const struct {
     const char *name;
     const char *title;
     size_t result;
     int blocks;
+    size_t payload;
+    enum row sealed_by;
 } rows[ROWS] = {
-    [ROW_AES] = {"aes", "AES-128, key schedule and a block", AES_BLOCK, 1},
-    [ROW_AES_BACK] = {"aes-back", "AES-128, key schedule and a block back", AES_BLOCK, 1},
-    [ROW_AES_CHAIN] = {"aes-chain", "AES-128, a block alone (1)", AES_BLOCK, AES_BLOCKS},
-    [ROW_AES_OFB] = {"aes-ofb", "AES-128, OFB of 243 bytes (4)", AES_TEXT, 1},
-    [ROW_AES_CMAC] = {"aes-cmac", "AES-128, CMAC of 243 bytes (4)", AES_BLOCK, 1},
-    [ROW_DES] = {"des", "DES, key schedule and a block", DES_BLOCK, 1},
-    [ROW_DES_BACK] = {"des-back", "DES, key schedule and a block back", DES_BLOCK, 1},
-    [ROW_DES_CHAIN] = {"des-chain", "DES, a block alone (2)", LONG_TEXT, DES_BLOCKS},
-    [ROW_CBC] = {"des-cbc", "DES, CBC of 248 bytes", DES_TEXT, 1},
-    [ROW_CBC_BACK] = {"des-cbc-back", "DES, CBC of 248 bytes back", DES_TEXT, 1},
-    [ROW_FOLD] = {"des-fold", "DES, fold over 31 keys (3)", DES_BLOCK, 1},
-    [ROW_FOLD_BACK] = {"des-fold-back", "DES, fold over 31 keys back (3)", DES_BLOCK, 1},
-    [ROW_TDES] = {"tdes", "Triple DES, two key schedules and a block", DES_BLOCK, 1},
+    [ROW_AES] = {"aes", "AES-128, key schedule and a block", AES_BLOCK, 1, 0, 0},
+    [ROW_AES_BACK] = {"aes-back", "AES-128, key schedule and a block back", AES_BLOCK, 1, 0, 0},
+    [ROW_AES_CHAIN] = {"aes-chain", "AES-128, a block alone (1)", AES_BLOCK, AES_BLOCKS, 0, 0},
+    [ROW_AES_OFB] = {"aes-ofb", "AES-128, OFB of 243 bytes (4)", AES_TEXT, 1, 0, 0},
+    [ROW_AES_CMAC] = {"aes-cmac", "AES-128, CMAC of 243 bytes (4)", AES_BLOCK, 1, 0, 0},
+    [ROW_DES] = {"des", "DES, key schedule and a block", DES_BLOCK, 1, 0, 0},
+    [ROW_DES_BACK] = {"des-back", "DES, key schedule and a block back", DES_BLOCK, 1, 0, 0},
+    [ROW_DES_CHAIN] = {"des-chain", "DES, a block alone (2)", LONG_TEXT, DES_BLOCKS, 0, 0},
+    [ROW_CBC] = {"des-cbc", "DES, CBC of 248 bytes", DES_TEXT, 1, 0, 0},
+    [ROW_CBC_BACK] = {"des-cbc-back", "DES, CBC of 248 bytes back", DES_TEXT, 1, 0, 0},
+    [ROW_FOLD] = {"des-fold", "DES, fold over 31 keys (3)", DES_BLOCK, 1, 0, 0},
+    [ROW_FOLD_BACK] = {"des-fold-back", "DES, fold over 31 keys back (3)", DES_BLOCK, 1, 0, 0},
+    [ROW_TDES] = {"tdes", "Triple DES, two key schedules and a block", DES_BLOCK, 1, 0, 0},
+    [ROW_AES_SEAL_0] = {"aes-seal-0", "AES frame, seal 0 bytes (5)", ANSWER + AES_ADDED, 1, 0, 0},
+    [ROW_AES_SEAL_16] = {"aes-seal-16", "AES frame, seal 16 bytes (5)", ANSWER + 16 + AES_ADDED, 1, 16, 0},
+    [ROW_AES_SEAL_64] = {"aes-seal-64", "AES frame, seal 64 bytes (5)", ANSWER + 64 + AES_ADDED, 1, 64, 0},
+    [ROW_AES_SEAL_243] = {"aes-seal-243", "AES frame, seal 243 bytes (5)", ANSWER + 243 + AES_ADDED, 1, 243, 0},
+    [ROW_AES_OPEN_0] = {"aes-open-0", "AES frame, open 0 bytes (5)", ANSWER, 1, 0, ROW_AES_SEAL_0},
+    [ROW_AES_OPEN_16] = {"aes-open-16", "AES frame, open 16 bytes (5)", ANSWER + 16, 1, 16, ROW_AES_SEAL_16},
+    [ROW_AES_OPEN_64] = {"aes-open-64", "AES frame, open 64 bytes (5)", ANSWER + 64, 1, 64, ROW_AES_SEAL_64},
+    [ROW_AES_OPEN_243] = {"aes-open-243", "AES frame, open 243 bytes (5)", ANSWER + 243, 1, 243, ROW_AES_SEAL_243},
+    [ROW_DES_SEAL_0] = {"des-seal-0", "DES frame, seal 0 bytes (5)", ANSWER + DES_ADDED, 1, 0, 0},
+    [ROW_DES_SEAL_16] = {"des-seal-16", "DES frame, seal 16 bytes (5)", ANSWER + 16 + DES_ADDED, 1, 16, 0},
+    [ROW_DES_SEAL_64] = {"des-seal-64", "DES frame, seal 64 bytes (5)", ANSWER + 64 + DES_ADDED, 1, 64, 0},
+    [ROW_DES_SEAL_232] = {"des-seal-232", "DES frame, seal 232 bytes (5)", ANSWER + 232 + DES_ADDED, 1, 232, 0},
+    [ROW_DES_OPEN_0] = {"des-open-0", "DES frame, open 0 bytes (5)", ANSWER, 1, 0, ROW_DES_SEAL_0},
+    [ROW_DES_OPEN_16] = {"des-open-16", "DES frame, open 16 bytes (5)", ANSWER + 16, 1, 16, ROW_DES_SEAL_16},
+    [ROW_DES_OPEN_64] = {"des-open-64", "DES frame, open 64 bytes (5)", ANSWER + 64, 1, 64, ROW_DES_SEAL_64},
+    [ROW_DES_OPEN_232] = {"des-open-232", "DES frame, open 232 bytes (5)", ANSWER + 232, 1, 232, ROW_DES_SEAL_232},
 };
 
 static struct input inputs[INPUTS];
@@ -69,6 +89,22 @@ static void fill_inputs(void)
         bytes[i] = (uint8_t)(next_number() >> 32);
 }
 
+// Sets the parts of the inputs that depend on the row. What an opening opens is sealed by the first peer.
+static void prepare(int row)
+{
+    static uint8_t result[LONG_TEXT];
+    const enum row seal = rows[row].sealed_by;
+
+    for (int i = 0; i < INPUTS; i++) {
+        inputs[i].payload = rows[row].payload;
+        if (seal == 0)
+            continue;
+        contestants[1]->operations[seal](&inputs[i], result);
+        inputs[i].sealed_n = rows[seal].result - ANSWER;
+        memcpy(inputs[i].sealed, result + ANSWER, inputs[i].sealed_n);
+    }
+}
+
 // How many of a row's results are not those of the first peer; each is named on standard error.
 static int differences(int row)
 {
@@ -88,6 +124,34 @@ static int differences(int row)
                 found++;
             }
         }
+    }
+    return found;
+}
+
+// How many contestants do not refuse a frame with one byte changed, in a row of opening; each is named on
+// standard error. The changed bytes lie all over the frame.
+static int wrongly_opened(int row)
+{
+    static uint8_t got[LONG_TEXT];
+    uint64_t answer;
+    int found = 0;
+
+    if (rows[row].sealed_by == 0)
+        return 0;
+    for (int i = 0; i < INPUTS; i++) {
+        uint8_t *changed = &inputs[i].sealed[inputs[i].sealed_n * (size_t)i / INPUTS];
+
+        *changed ^= 0x10;
+        for (int c = 0; c < CONTESTANTS; c++) {
+            contestants[c]->operations[row](&inputs[i], got);
+            memcpy(&answer, got, ANSWER);
+            if (answer != WRONG_MAC) {
+                fprintf(stderr, "bench: %s: %s opens what was changed, at input %d\n", rows[row].name,
+                        contestants[c]->name, i);
+                found++;
+            }
+        }
+        *changed ^= 0x10;
     }
     return found;
 }
@@ -150,8 +214,10 @@ static double median(double *times)
 static void time_row(int row, double *medians)
 {
     static double times[CONTESTANTS][ROUNDS];
-    const long n = batch_size(contestants[0]->operations[row]);
+    long n;
 
+    prepare(row);
+    n = batch_size(contestants[0]->operations[row]);
     for (int round = 0; round < ROUNDS; round++) {
         for (int turn = 0; turn < CONTESTANTS; turn++) {
             int c = (round + turn) % CONTESTANTS;
@@ -202,6 +268,7 @@ static void print_notes(void)
     printf("3. A block encrypted under each 8 bytes of %d in turn: a key schedule and a block, %d times.\n",
            DES_TEXT, DES_TEXT / DES_BLOCK);
     printf("4. nettle has no OFB, and OpenSSL no CMAC below EVP: there it is C over the peer's block function.\n");
+    printf("5. A peer's frame is C over its modes. Ours is what crate frame exports.\n");
     printf("\nnettle's AES ran %s the processor's AES instructions. No other contestant uses them.\n",
            nettle_unbound() ? "WITH" : "without");
 }
@@ -220,8 +287,10 @@ static int bench(void)
     double medians[CONTESTANTS];
     int found = 0;
 
-    for (int row = 0; row < ROWS; row++)
-        found += differences(row);
+    for (int row = 0; row < ROWS; row++) {
+        prepare(row);
+        found += differences(row) + wrongly_opened(row);
+    }
     if (found != 0)
         return 1;
     warm_up();
@@ -270,6 +339,7 @@ static int count(const char *row_name, const char *contestant_name, long n)
         fprintf(stderr, "bench: no row %s of %s\n", row_name, contestant_name);
         return 2;
     }
+    prepare(row);
     run(contestants[c]->operations[row], n);
     return 0;
 }

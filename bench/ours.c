@@ -1,4 +1,5 @@
-// The proved functions, as the archive exports them. They work in place, so the input is copied first.
+// The proved functions, as the archives of crates bench and frame export them. Those of bench work in place,
+// so the input is copied first.
 #include "bench.h"
 
 #include <string.h>
@@ -18,6 +19,15 @@ void hernotxak_bench_des_under_each(const uint8_t *keys, size_t keys_n, uint8_t 
 void hernotxak_bench_des_under_each_back(const uint8_t *keys, size_t keys_n, uint8_t *block, size_t block_n);
 void hernotxak_bench_tdes2_encrypt(const uint8_t *key1, size_t key1_n, const uint8_t *key2, size_t key2_n,
                                    uint8_t *block, size_t block_n);
+uint64_t felica_encrypt_command(uint8_t scheme, uint8_t code, uint16_t number, const uint8_t *id, size_t id_n,
+                                const uint8_t *credentials, size_t credentials_n, const uint8_t *payload,
+                                size_t payload_n, uint8_t *out, size_t out_n);
+uint64_t felica_decrypt_response(uint8_t scheme, uint8_t code, const uint8_t *id, size_t id_n,
+                                 const uint8_t *credentials, size_t credentials_n, const uint8_t *data,
+                                 size_t data_n, uint8_t *out, size_t out_n);
+
+// The scheme marks.
+enum { DES = 1, AES = 2 };
 
 static void aes_block(const struct input *in, uint8_t *out)
 {
@@ -98,6 +108,42 @@ static void tdes_block(const struct input *in, uint8_t *out)
 {
     memcpy(out, in->text, DES_BLOCK);
     hernotxak_bench_tdes2_encrypt(in->key, DES_BLOCK, in->key2, DES_BLOCK, out, DES_BLOCK);
+}
+
+static void seal_frame(uint8_t scheme, const struct input *in, const uint8_t *credentials, size_t n, uint8_t *out)
+{
+    const uint64_t answer = felica_encrypt_command(scheme, in->code, in->number, in->id, ID, credentials, n,
+                                                   in->text, in->payload, out + ANSWER, SEALED);
+
+    memcpy(out, &answer, ANSWER);
+}
+
+static void open_frame(uint8_t scheme, const struct input *in, const uint8_t *credentials, size_t n, uint8_t *out)
+{
+    const uint64_t answer = felica_decrypt_response(scheme, in->code, in->id, ID, credentials, n, in->sealed,
+                                                    in->sealed_n, out + ANSWER, SEALED);
+
+    memcpy(out, &answer, ANSWER);
+}
+
+static void aes_seal(const struct input *in, uint8_t *out)
+{
+    seal_frame(AES, in, in->credentials, CREDENTIALS, out);
+}
+
+static void aes_open(const struct input *in, uint8_t *out)
+{
+    open_frame(AES, in, in->credentials, CREDENTIALS, out);
+}
+
+static void des_seal(const struct input *in, uint8_t *out)
+{
+    seal_frame(DES, in, in->key, DES_BLOCK, out);
+}
+
+static void des_open(const struct input *in, uint8_t *out)
+{
+    open_frame(DES, in, in->key, DES_BLOCK, out);
 }
 
 static void start(void)
