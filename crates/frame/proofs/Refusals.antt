@@ -38,6 +38,10 @@ zero-passes (r ∷ rs) o n h = go (r .holds) refl (zero-passes rs o (n .1))
         absurd (omega (arith, n .0))
     go false e rest = (e, rest (ap (λ (p : Outcome). p .number) (sym (row-passes r rs o e)) ∙ h))
 
+pub accepted-zero : (number : ℕ) (payload : List ℕ) → accepted number payload .number ≡ 0
+unfolding accepted
+accepted-zero number payload = refl
+
 -- ---- a refusal
 
 -- no row has the number k
@@ -57,22 +61,25 @@ from-work k (r ∷ rs) o n h = go (r .holds) refl (from-work k rs o (n .1))
         let q = rest (ap (λ (p : Outcome). p .number) (sym (row-passes r rs o e)) ∙ h) in
         ((e, q .0), q .1)
 
--- it writes nothing
-pub refusal-empty : (rs : List Row) (n : ℕ) (b : List ℕ) → (decide rs (accepted n b) .number ≡ 0 → ⊥) → decide rs (accepted n b) .bytes ≡ []
-unfolding decide choose refused accepted
-refusal-empty [] n b h = absurd (h refl)
-refusal-empty (r ∷ rs) n b h = go (r .holds) h (refusal-empty rs n b)
-  where
-    go : (t : Bool) → (choose t (refused (r .number)) (decide rs (accepted n b)) .number ≡ 0 → ⊥) → ((decide rs (accepted n b) .number ≡ 0 → ⊥) → decide rs (accepted n b) .bytes ≡ [])
-        → choose t (refused (r .number)) (decide rs (accepted n b)) .bytes ≡ []
-    go true h rest = refl
-    go false h rest = rest h
+-- it is all of the outcome: nothing is written
+abbrev pub Whole : Outcome → Type 0
+Whole o = (o .number ≡ 0 → ⊥) → o ≡ refused (o .number)
+
+pub refused-whole : (k : ℕ) → Whole (refused k)
+unfolding refused
+refused-whole k h = refl
+
+pub choose-whole : (t : Bool) (a b : Outcome) → Whole a → Whole b → Whole (choose t a b)
+unfolding choose
+choose-whole true a b f g = f
+choose-whole false a b f g = g
+
+pub refusal-whole : (rs : List Row) (n : ℕ) (b : List ℕ) → Whole (decide rs (accepted n b))
+unfolding decide
+refusal-whole [] n b = λ h. absurd (h (accepted-zero n b))
+refusal-whole (r ∷ rs) n b = choose-whole (r .holds) (refused (r .number)) (decide rs (accepted n b)) (refused-whole (r .number)) (refusal-whole rs n b)
 
 -- ---- what an acceptance says
-
-pub accepted-zero : (number : ℕ) (payload : List ℕ) → accepted number payload .number ≡ 0
-unfolding accepted
-accepted-zero number payload = refl
 
 pub accepted-number : (m n : ℕ) (s t : List ℕ) → accepted m s ≡ accepted n t → m ≡ n
 unfolding accepted

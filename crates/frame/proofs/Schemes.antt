@@ -11,9 +11,9 @@ use lib.ListN.{length, take, drop, length-drop, take-append-drop, drop-of-length
 use Rattle.cipher.specs.Bytes.{Bytes}
 use Rattle.frame.specs.declared.answer.Answer.{Answer}
 use Rattle.frame.specs.Outcome.{Outcome, Meets, refused, accepted, choose, over, row}
-use Rattle.frame.specs.AesFrame.{aesSealed, aesSize, aesSealing}
-use Rattle.frame.specs.DesFrame.{desSealed, desSize, desSealing}
-use Rattle.frame.specs.Scheme.{byScheme, sealing, framed, framing, sealedSize, longest, Forecast}
+use Rattle.frame.specs.AesFrame.{aesSealed, aesSize, aesSealing, aesOpening}
+use Rattle.frame.specs.DesFrame.{desSealed, desSize, desSealing, desOpening}
+use Rattle.frame.specs.Scheme.{byScheme, sealing, opening, framed, framing, sealedSize, longest, Forecast}
 use Rattle.frame.specs.Guards.{firstOf}
 use Rattle.frame.specs.Tests.{isnt, either}
 use Rattle.frame.proofs.Decides.{Refused}
@@ -21,7 +21,7 @@ use Rattle.frame.proofs.AesTrip.{aes-sealed-long}
 use Rattle.frame.proofs.DesOpens.{rest-part}
 use Rattle.frame.proofs.DesSeals.{size-most}
 use Rattle.frame.proofs.DesTrip.{des-sealed-long}
-use Rattle.frame.proofs.Refusals.{refusal-empty}
+use Rattle.frame.proofs.Refusals.{Whole, refused-whole, choose-whole, refusal-whole}
 use Rattle.frame.proofs.Sealing.{des-seals, aes-seals, des-seals-only, aes-seals-only}
 
 -- ---- marks
@@ -84,16 +84,20 @@ module _ (scheme code number room : ℕ) (c id payload : List ℕ) (bc : Bytes c
       (λ (e : scheme ≡ 2). let q = mark-aes scheme des aes e in rw q (aes-written (rw q at z)))
       (mark-known scheme des aes z)
 
--- a refused one has written nothing
-choose-empty : (t : Bool) (a b : Outcome) → ((a .number ≡ 0 → ⊥) → a .bytes ≡ []) → ((b .number ≡ 0 → ⊥) → b .bytes ≡ []) → (choose t a b .number ≡ 0 → ⊥) → choose t a b .bytes ≡ []
-unfolding choose
-choose-empty true a b f g h = f h
-choose-empty false a b f g h = g h
+-- a refusal of sealing or opening is all of its outcome
+pub sealing-whole : (scheme code number room : ℕ) (c id payload : List ℕ) → Whole (sealing scheme c code number id payload room)
+unfolding sealing byScheme desSealing aesSealing
+sealing-whole scheme code number room c id payload =
+    choose-whole (eqb scheme 1) _ _ (refusal-whole _ 0 _) (choose-whole (eqb scheme 2) _ _ (refusal-whole _ 0 _) (refused-whole 17))
+
+pub opening-whole : (scheme code room : ℕ) (c id d : List ℕ) → Whole (opening scheme c code id d room)
+unfolding opening byScheme desOpening aesOpening
+opening-whole scheme code room c id d =
+    choose-whole (eqb scheme 1) _ _ (refusal-whole _ _ _) (choose-whole (eqb scheme 2) _ _ (refusal-whole _ _ _) (refused-whole 17))
 
 pub unwritten : (scheme code number room : ℕ) (c id payload : List ℕ) → (sealing scheme c code number id payload room .number ≡ 0 → ⊥) → sealing scheme c code number id payload room .bytes ≡ []
-unfolding sealing byScheme desSealing aesSealing refused
-unwritten scheme code number room c id payload =
-    choose-empty (eqb scheme 1) _ _ (refusal-empty _ 0 _) (choose-empty (eqb scheme 2) _ _ (refusal-empty _ 0 _) (λ h. refl))
+unfolding refused
+unwritten scheme code number room c id payload h = ap (λ (o : Outcome). o .bytes) (sealing-whole scheme code number room c id payload h)
 
 -- ---- the frame around it
 

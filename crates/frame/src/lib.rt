@@ -19,6 +19,7 @@ pub use des::generate_registration_package_des;
 pub use des::open_des;
 pub use des::open_trimmed_des;
 pub use des::seal_des;
+pub use number::number_of_bytes;
 pub use secure::build_secure_response_frame;
 pub use secure::decrypt_response;
 pub use secure::encrypt_command;

@@ -2,3 +2,4 @@ pub mod Challenge
 pub mod Derivation
 pub mod Entries
 pub mod ServiceCode
+pub mod Session

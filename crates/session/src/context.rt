@@ -1,0 +1,355 @@
+// The session after authentication (AuthenticatedContext of mod.rs), by value.
+use frame::Answer;
+ghost use mathlib.Core.Path.{_≡_};
+ghost use Prim.Native.Nat.{_+_, _*_, _≤_};
+ghost use lib.ListN.{length, take, drop};
+ghost use Rattle.frame.specs.Guards.{firstOf};
+ghost use Rattle.session.specs.Session.{makeRows, nothing, established, Makes, withNumber, counting, Steps, listedCount, firstPlace, indexIn, index, acceptRows, Receives, receiving, credentialsSize, credentialsOf};
+ghost use Rattle.session.specs.Entries.{nodes as nodeList};
+ghost use Rattle.frame.specs.Number.{numberOf};
+ghost use Rattle.frame.specs.Outcome.{Meets};
+ghost use Rattle.frame.specs.Scheme.{opening};
+
+// nodes has node_count nodes of two bytes each, the low byte first. A DES session key is the first 8 bytes of credentials.
+pub struct AuthenticatedContext {
+    transaction_number: u16,
+    transaction_id: [u8; 6],
+    scheme: u8,
+    credentials: [u8; 36],
+    nodes: [u8; 128],
+    node_count: u16,
+    turned_away: u16,
+}
+
+// What making a session answers: 17, 1 or 0, and the session, which after a refusal is all zeros.
+pub struct Made {
+    pub number: u8,
+    pub context: AuthenticatedContext,
+}
+
+// What a step of the number answers: 9 or 0, the new number, and the session after it.
+pub struct Stepped {
+    pub number: u8,
+    pub transaction_number: u16,
+    pub context: AuthenticatedContext,
+}
+
+// What a response step answers: the answer of an opening, and the session after it.
+pub struct Received {
+    pub number: u8,
+    pub length: u16,
+    pub transaction_number: u16,
+    pub context: AuthenticatedContext,
+}
+
+// How many bytes of credentials a scheme has.
+fn credentials_size(scheme: u8) -> usize
+    ensures { λ r. ⌜ r ≡ credentialsSize scheme ⌝ }
+{
+    if scheme == 1 {
+        return 8;
+    }
+    36
+}
+
+// 17 and 1 of making a session, from lengths; 0 to go on.
+fn guard_new(scheme: u8, id: usize, credentials: usize, nodes: usize) -> u8
+    ensures { λ r. ⌜ r ≡ firstOf (makeRows scheme id credentials nodes) ⌝ }
+{
+    if scheme < 1 {
+        return 17;
+    }
+    if 2 < scheme {
+        return 17;
+    }
+    if id != 6 {
+        return 17;
+    }
+    if credentials != credentials_size(scheme) {
+        return 17;
+    }
+    if nodes % 2 != 0 {
+        return 17;
+    }
+    if 128 < nodes {
+        return 1;
+    }
+    0
+}
+
+// A session of nothing.
+fn empty() -> AuthenticatedContext
+    ensures { λ r. ⌜ r ≡ nothing ⌝ }
+{
+    AuthenticatedContext {
+        transaction_number: 0,
+        transaction_id: [0u8; 6],
+        scheme: 0,
+        credentials: [0u8; 36],
+        nodes: [0u8; 128],
+        node_count: 0,
+        turned_away: 0,
+    }
+}
+
+// A session of what was asked for; the rest of credentials and nodes is zeros.
+fn establish(
+    scheme: u8,
+    number: u16,
+    id: &[u8],
+    credentials: &[u8],
+    nodes: &[u8],
+) -> AuthenticatedContext
+    requires { ⌜ length (now id) ≡ 6 ⌝ }
+    requires { ⌜ length (now credentials) ≤ 36 ⌝ }
+    requires { ⌜ length (now nodes) ≤ 128 ⌝ }
+    ensures { λ r. ⌜ r ≡ established scheme number (now (id .entry)) (now (credentials .entry)) (now (nodes .entry)) ⌝ }
+{
+    let mut own_id = [0u8; 6];
+    cipher::copy(id, &mut own_id);
+    let mut own_credentials = [0u8; 36];
+    cipher::copy(credentials, &mut own_credentials);
+    let mut own_nodes = [0u8; 128];
+    cipher::copy(nodes, &mut own_nodes);
+    AuthenticatedContext {
+        transaction_number: number,
+        transaction_id: own_id,
+        scheme,
+        credentials: own_credentials,
+        nodes: own_nodes,
+        node_count: (nodes.len() / 2) as u16,
+        turned_away: 0,
+    }
+}
+
+// 9, 15 and 16 apart, what a session refuses leaves it as it was but for its count.
+fn count_turned_away(context: AuthenticatedContext, number: u8) -> AuthenticatedContext
+    ensures { λ r. ⌜ r ≡ counting number context ⌝ }
+{
+    if number < 10 {
+        return context;
+    }
+    if 15 < number {
+        return context;
+    }
+    let count = context.turned_away;
+    if count == 65535 {
+        return context;
+    }
+    let mut next = context;
+    next.turned_away = count + 1;
+    next
+}
+
+// How many nodes a session's list has: at most 64.
+fn listed(node_count: u16) -> usize
+    ensures { λ r. ⌜ (r ≡ listedCount «node_count») × (r ≤ 64) ⌝ }
+{
+    if node_count < 64 {
+        return node_count as usize;
+    }
+    64
+}
+
+// The node that stands at a place of a list.
+fn node_at(nodes: &[u8], at: usize) -> u16
+    requires { ⌜ at + 2 ≤ length (now nodes) ⌝ }
+    ensures { λ r. ⌜ r ≡ numberOf (drop at (now (nodes .entry))) ⌝ }
+{
+    frame::number_of_bytes(nodes[at], nodes[at + 1])
+}
+
+// The first place of a node in a list; how many nodes it has where there is none.
+fn first_place(nodes: &[u8], node: u16) -> usize
+    ensures { λ r. ⌜ r ≡ firstPlace (nodeList (now (nodes .entry))) node ⌝ }
+{
+    let n = nodes.len() / 2;
+    let mut i = 0;
+    while i < n {
+        if node_at(nodes, i * 2) == node {
+            return i;
+        }
+        i += 1;
+    }
+    n
+}
+
+// The first place of a node in a list of count nodes; 64 where it is not listed.
+fn index_of(list: [u8; 128], count: usize, node: u16) -> u16
+    requires { ⌜ count ≤ 64 ⌝ }
+    ensures { λ r. ⌜ r ≡ indexIn (nodeList (take (count * 2) list)) node ⌝ }
+{
+    let end = count * 2;
+    let place = first_place(&list[0..end], node);
+    if place < count {
+        return place as u16;
+    }
+    64
+}
+
+// 15 and 16 of a response step; 0 to go on.
+fn guard_accept(session: u16, number: u16, payload: usize, room: usize) -> u8
+    ensures { λ r. ⌜ r ≡ firstOf (acceptRows session number payload room) ⌝ }
+{
+    if number <= session {
+        return 15;
+    }
+    if room < payload {
+        return 16;
+    }
+    0
+}
+
+// Opens data with as much of the credentials as the scheme has.
+fn open_with(
+    scheme: u8,
+    code: u8,
+    id: [u8; 6],
+    credentials: [u8; 36],
+    data: &[u8],
+    out: &mut [u8],
+) -> Answer
+    ensures { λ r. ⌜ Meets (opening scheme (take (credentialsSize scheme) credentials) code id (now («data» .entry)) (length (now (out .entry)))) r (now (out .entry)) (now (out .exit)) ⌝ }
+{
+    let n = credentials_size(scheme);
+    frame::decrypt_response(scheme, code, &id, &credentials[0..n], data, out)
+}
+
+impl AuthenticatedContext {
+    // Makes a session with its number, its transaction ID, its credentials and at most 64 nodes.
+    pub fn new(scheme: u8, number: u16, id: &[u8], credentials: &[u8], nodes: &[u8]) -> Made
+        ensures { λ r. ⌜ Makes scheme number (now (id .entry)) (now (credentials .entry)) (now (nodes .entry)) r ⌝ }
+    {
+        let refusal = guard_new(scheme, id.len(), credentials.len(), nodes.len());
+        if refusal != 0 {
+            return Made {
+                number: refusal,
+                context: empty(),
+            };
+        }
+        Made {
+            number: 0,
+            context: establish(scheme, number, id, credentials, nodes),
+        }
+    }
+
+    pub fn transaction_number(self) -> u16
+        ensures { λ r. ⌜ r ≡ self .«transaction_number» ⌝ }
+    {
+        self.transaction_number
+    }
+
+    pub fn transaction_id(self) -> [u8; 6]
+        ensures { λ r. ⌜ r ≡ self .«transaction_id» ⌝ }
+    {
+        let id = self.transaction_id;
+        id
+    }
+
+    pub fn scheme(self) -> u8
+        ensures { λ r. ⌜ r ≡ self .scheme ⌝ }
+    {
+        self.scheme
+    }
+
+    pub fn nodes(self) -> [u8; 128]
+        ensures { λ r. ⌜ r ≡ self .nodes ⌝ }
+    {
+        let nodes = self.nodes;
+        nodes
+    }
+
+    pub fn node_count(self) -> u16
+        ensures { λ r. ⌜ r ≡ self .«node_count» ⌝ }
+    {
+        self.node_count
+    }
+
+    pub fn turned_away(self) -> u16
+        ensures { λ r. ⌜ r ≡ self .«turned_away» ⌝ }
+    {
+        self.turned_away
+    }
+
+    // The first place of a node in the session's list, from 0; 64 where it is not listed.
+    pub fn node_index(self, node: u16) -> u16
+        ensures { λ r. ⌜ r ≡ index self node ⌝ }
+    {
+        let nodes = self.nodes;
+        index_of(nodes, listed(self.node_count), node)
+    }
+
+    // Sets the number, whatever it was.
+    pub fn set_transaction_number(self, value: u16) -> AuthenticatedContext
+        ensures { λ r. ⌜ r ≡ withNumber value self ⌝ }
+    {
+        let mut next = self;
+        next.transaction_number = value;
+        next
+    }
+
+    // The next number, before a command is sealed: 9 where there is none.
+    pub fn increment_transaction_number(self) -> Stepped
+        ensures { λ r. ⌜ Steps self r ⌝ }
+    {
+        let number = self.transaction_number;
+        if number == 65535 {
+            return Stepped {
+                number: 9,
+                transaction_number: 0,
+                context: self,
+            };
+        }
+        let next = number + 1;
+        Stepped {
+            number: 0,
+            transaction_number: next,
+            context: self.set_transaction_number(next),
+        }
+    }
+
+    // Opens a response, and takes its number. The trial payload stands in a work block, so that a refusal shows none of it.
+    pub fn apply_response(self, code: u8, data: &[u8], out: &mut [u8]) -> Received
+        ensures { λ r. ⌜ Receives self (receiving self code (now («data» .entry)) (length (now (out .entry)))) r (now (out .entry)) (now (out .exit)) ⌝ }
+    {
+        let mut work = [0u8; 256];
+        let opened = self.open(code, data, &mut work);
+        if opened.number != 0 {
+            return self.turn_away(opened.number);
+        }
+        let n = opened.length as usize;
+        let number = opened.transaction_number;
+        let refusal = guard_accept(self.transaction_number, number, n, out.len());
+        if refusal != 0 {
+            return self.turn_away(refusal);
+        }
+        cipher::copy(&work[0..n], out);
+        Received {
+            number: 0,
+            length: opened.length,
+            transaction_number: number,
+            context: self.set_transaction_number(number),
+        }
+    }
+
+    // A response is refused, and counted if its number asks for it.
+    fn turn_away(self, number: u8) -> Received
+        ensures { λ r. ⌜ (r .number ≡ number) × (r .length ≡ 0) × (r .«transaction_number» ≡ 0) × (r .context ≡ counting number self) ⌝ }
+    {
+        Received {
+            number,
+            length: 0,
+            transaction_number: 0,
+            context: count_turned_away(self, number),
+        }
+    }
+
+    // Opens data with the session's scheme, credentials and ID.
+    fn open(self, code: u8, data: &[u8], out: &mut [u8]) -> Answer
+        ensures { λ r. ⌜ Meets (opening (self .scheme) (credentialsOf self) code (self .«transaction_id») (now («data» .entry)) (length (now (out .entry)))) r (now (out .entry)) (now (out .exit)) ⌝ }
+    {
+        let id = self.transaction_id;
+        let credentials = self.credentials;
+        open_with(self.scheme, code, id, credentials, data, out)
+    }
+}
