@@ -1,0 +1,67 @@
+// The header by itself, as C99 and as C++11: included twice, its constants against docs/NUMBERS.md, its accessors, and a call of each
+// function, so that C++ too finds it in the archive.
+#include "../../include/felica_secure.h"
+#include "../../include/felica_secure.h"
+
+#define FACT(name, holds) typedef char fact_##name[(holds) ? 1 : -1]
+
+FACT(ok, FELICA_OK == 0);
+FACT(n1, FELICA_TOO_MANY_ENTRIES == 1);
+FACT(n2, FELICA_SAME_KEY_TWICE == 2);
+FACT(n3, FELICA_NO_NODES == 3);
+FACT(n4, FELICA_KEY_MISSING == 4);
+FACT(n5, FELICA_OTHER_ALGORITHM == 5);
+FACT(n6, FELICA_INDIVIDUAL_KEY_WITH_DES == 6);
+FACT(n7, FELICA_DES_WITHOUT_AREA == 7);
+FACT(n8, FELICA_DES_WITHOUT_KEYED_SERVICE == 8);
+FACT(n9, FELICA_NUMBER_EXHAUSTED == 9);
+FACT(n10, FELICA_NOT_WHOLE_BLOCKS == 10);
+FACT(n11, FELICA_TOO_SHORT == 11);
+FACT(n12, FELICA_TOO_LONG == 12);
+FACT(n13, FELICA_MAC_DIFFERS == 13);
+FACT(n14, FELICA_ID_DIFFERS == 14);
+FACT(n15, FELICA_NUMBER_NOT_ABOVE == 15);
+FACT(n16, FELICA_OUTPUT_TOO_SMALL == 16);
+FACT(n17, FELICA_BAD_MARK_OR_LENGTH == 17);
+FACT(des, FELICA_SCHEME_DES == 1);
+FACT(aes, FELICA_SCHEME_AES128 == 2);
+FACT(id, FELICA_ID_SIZE == 6);
+FACT(key, FELICA_DES_KEY_SIZE == 8);
+FACT(credentials, FELICA_AES_CREDENTIALS_SIZE == 36);
+FACT(des_payload, FELICA_DES_PAYLOAD_MAX == 232);
+FACT(aes_payload, FELICA_AES_PAYLOAD_MAX == 243);
+FACT(authentication2, FELICA_AUTHENTICATION2_PADDED_MAX == 240);
+FACT(sealed, FELICA_SEALED_MAX == 253);
+FACT(frame, FELICA_FRAME_MAX == 255);
+FACT(package, FELICA_PACKAGE_MAX == 4096);
+
+static int accessors(void)
+{
+    const uint64_t answer = (uint64_t)0x1234 << 32 | (uint64_t)0xABCD << 16 | (uint64_t)0xEF << 8 | 0x56;
+
+    return felica_answer_number(answer) == 0x56 && felica_answer_scheme(answer) == 0xEF && felica_answer_length(answer) == 0xABCD &&
+           felica_answer_transaction_number(answer) == 0x1234;
+}
+
+// An ID, key or credentials of one byte: 17 from each.
+static int calls(void)
+{
+    const uint8_t in[1] = {0};
+    uint8_t out[1];
+    const uint64_t bad = FELICA_BAD_MARK_OR_LENGTH;
+
+    return felica_encrypt_command(1, 0, 0, in, 1, in, 1, in, 1, out, 1) == bad &&
+           felica_decrypt_response(2, 0, in, 1, in, 1, in, 1, out, 1) == bad &&
+           felica_build_secure_response_frame(1, 0, 0, in, 1, in, 1, in, 1, out, 1) == bad &&
+           felica_forecast(3, 1) == bad &&
+           felica_decrypt_response_trimmed_des(0, in, 1, in, 1, in, 1, out, 1) == bad &&
+           felica_encrypt_authentication2_payload_des(in, 1, in, 1, out, 1) == bad &&
+           felica_decrypt_authentication2_payload_des(in, 1, in, 1, out, 1) == bad &&
+           felica_decrypt_authentication2_payload_v2_aes128(in, 1, in, 1, in, 1, out, 1) == bad &&
+           felica_generate_registration_package_des(in, 1, in, 1, out, 1) == bad;
+}
+
+int main(void)
+{
+    return accessors() && calls() ? 0 : 1;
+}

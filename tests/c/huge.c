@@ -1,0 +1,52 @@
+#include "parts.h"
+
+#include "check.h"
+#include "layout.h"
+
+#include "../../include/felica_secure.h"
+
+#include <string.h>
+#include <sys/mman.h>
+
+// A length that would be a good one if it were cut to 32 bits.
+#define OVER ((size_t)0x100000000u)
+
+// Memory that is there but costs nothing as long as nobody touches it. Nothing here may be read past its first page, nor written.
+void huge(void)
+{
+    size_t n = OVER + 4096;
+    const uint8_t *big = mmap(NULL, n, PROT_READ, MAP_PRIVATE | MAP_ANONYMOUS | MAP_NORESERVE, -1, 0);
+    const uint8_t *id = sample(1, 6).at, *key = sample(2, 8).at, *credentials = sample(3, 36).at;
+    uint8_t out[5000], before[5000];
+
+    part("lengths over 32 bits");
+    check(big != MAP_FAILED, "mmap");
+    memcpy(before, sample(4, sizeof before).at, sizeof before);
+    memcpy(out, before, sizeof before);
+
+    // a payload, data, a package
+    check(felica_encrypt_command(1, 0, 1, id, 6, key, 8, big, OVER + 16, out, 5000) == 12, "payload, DES");
+    check(felica_encrypt_command(2, 0, 1, id, 6, credentials, 36, big, OVER + 16, out, 5000) == 12, "payload, AES");
+    check(felica_build_secure_response_frame(1, 0, 1, id, 6, key, 8, big, OVER + 16, out, 5000) == 12, "response, DES");
+    check(felica_build_secure_response_frame(2, 0, 1, id, 6, credentials, 36, big, OVER + 16, out, 5000) == 12, "response, AES");
+    check(felica_decrypt_response(1, 0, id, 6, key, 8, big, OVER + 16, out, 5000) == 12, "data, DES");
+    check(felica_decrypt_response(2, 0, id, 6, credentials, 36, big, OVER + 16, out, 5000) == 12, "data, AES");
+    check(felica_decrypt_response_trimmed_des(0, id, 6, key, 8, big, OVER + 16, out, 5000) == 12, "data, trimmed");
+    check(felica_encrypt_authentication2_payload_des(key, 8, big, OVER + 16, out, 5000) == 12, "Authentication 2, payload");
+    check(felica_decrypt_authentication2_payload_des(key, 8, big, OVER + 16, out, 5000) == 12, "Authentication 2, DES data");
+    check(felica_decrypt_authentication2_payload_v2_aes128(id, 6, credentials, 36, big, OVER + 16, out, 5000) == 12,
+          "Authentication 2, AES data");
+    check(felica_generate_registration_package_des(key, 8, big, OVER + 16, out, 5000) == 12, "package");
+
+    // an ID, a key, credentials
+    check(felica_encrypt_command(1, 0, 1, big, OVER + 6, key, 8, id, 6, out, 5000) == 17, "ID");
+    check(felica_encrypt_command(1, 0, 1, id, 6, big, OVER + 8, id, 6, out, 5000) == 17, "key");
+    check(felica_encrypt_command(2, 0, 1, id, 6, big, OVER + 36, id, 6, out, 5000) == 17, "credentials");
+    check(felica_decrypt_response(1, 0, big, OVER + 6, key, 8, credentials, 32, out, 5000) == 17, "ID, opening");
+    check(felica_decrypt_response(1, 0, id, 6, big, OVER + 8, credentials, 32, out, 5000) == 17, "key, opening");
+    check(felica_decrypt_response(2, 0, id, 6, big, OVER + 36, credentials, 32, out, 5000) == 17, "credentials, opening");
+    check(felica_generate_registration_package_des(big, OVER + 8, credentials, 32, out, 5000) == 17, "key, package");
+
+    check(memcmp(out, before, sizeof before) == 0, "the output changed");
+    check(munmap((void *)(uintptr_t)big, n) == 0, "munmap");
+}

@@ -1,0 +1,28 @@
+// The parts of the test. Each ends the program at its first failure.
+#ifndef PARTS_H
+#define PARTS_H
+
+// Which refusal comes first where several conditions hold: every set of them, for each function.
+void orders(void);
+// All 256 scheme marks; IDs, keys and credentials of wrong lengths.
+void fixed(void);
+// Payloads, data and packages of every length up to 300, and around the limits: sizes and refusals.
+void lengths(void);
+// Buffers of more than 4 GiB.
+void huge(void);
+// Forecasts against sizes as sealed.
+void forecasts(void);
+// What was sealed opens as what it was.
+void trips(void);
+// The trimmed opening of each last byte.
+void trims(void);
+// Sealed data with a bit changed, cut, or drawn out.
+void damages(void);
+// The stored answers of the original Rust, one file. stored_all_seen() then fails where an operation had no case.
+void stored(const char *path);
+unsigned long stored_all_seen(void);
+
+// All of them, and a line that counts what was done. Answers 0.
+int all_parts(int files, char **paths);
+
+#endif
