@@ -1,2 +1,4 @@
+pub mod Agreeing
+pub mod Challenges
 pub mod Nodes
 pub mod Sessions

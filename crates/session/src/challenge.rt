@@ -1,0 +1,326 @@
+// Challenges over slices, by scheme mark: 1 is DES, 2 is AES, every other is refused. `keys` are the derived keys: group and user key for
+// DES, group and individual key for AES. Challenge 3C has 4 bytes under both marks, and is not looked at for DES.
+use crate::answer;
+use crate::des::AuthenticationContext;
+use crate::fixed;
+use crate::v2_aes;
+use crate::v2_aes::AuthenticationContextV2Aes128;
+use frame::Answer;
+ghost use mathlib.Core.Path.{_≡_};
+ghost use mathlib.Core.Bool.{false};
+ghost use mathlib.Core.List.{[], _∷_};
+ghost use lib.ListN.{length};
+ghost use Rattle.frame.specs.Outcome.{Meets, decide, row, accepted};
+ghost use Rattle.frame.specs.Tests.{isnt, same};
+ghost use Rattle.session.specs.Challenge.{desL, desAlpha, desBeta, aesAlpha, aesBeta, underAlpha, underBeta, blockSize, unknownScheme, wrong, wrongWith3C, making1A, reading1A, making1B, checking1B, making2A, reading2A, making2B, checking2B, derivingSessionKeys};
+
+const DES: u8 = 1;
+
+const AES128: u8 = 2;
+
+// ---- 17, from the mark and from lengths
+
+fn block_size(scheme: u8) -> usize
+    ensures { λ r. ⌜ r ≡ blockSize scheme ⌝ }
+{
+    if scheme == DES { 8 } else { 16 }
+}
+
+fn is_unknown(scheme: u8) -> bool
+    ensures { λ r. ⌜ r ≡ unknownScheme scheme ⌝ }
+{
+    if scheme == DES {
+        return false;
+    }
+    scheme != AES128
+}
+
+fn is_wrong(scheme: u8, keys: usize, idm: usize, block: usize) -> bool
+    ensures { λ r. ⌜ r ≡ wrong scheme keys idm block ⌝ }
+{
+    let size = block_size(scheme);
+    if is_unknown(scheme) {
+        return true;
+    }
+    if keys != size + size {
+        return true;
+    }
+    if idm != 8 {
+        return true;
+    }
+    block != size
+}
+
+fn is_wrong_with_3c(scheme: u8, keys: usize, idm: usize, block: usize, challenge_3c: usize) -> bool
+    ensures { λ r. ⌜ r ≡ wrongWith3C scheme keys idm block «challenge_3c» ⌝ }
+{
+    if is_wrong(scheme, keys, idm, block) {
+        return true;
+    }
+    challenge_3c != 4
+}
+
+// ---- the context of a scheme
+
+fn des_context(keys: &[u8], idm: &[u8]) -> AuthenticationContext
+    requires { ⌜ length (now keys) ≡ 16 ⌝ }
+    requires { ⌜ length (now idm) ≡ 8 ⌝ }
+    ensures { λ r. ⌜ (r .l ≡ desL (now (keys .entry)) (now (idm .entry))) × (r .alpha ≡ desAlpha (now (keys .entry)) (now (idm .entry))) × (r .beta ≡ desBeta (now (keys .entry)) (now (idm .entry))) ⌝ }
+{
+    let group = fixed::eight(&keys[0..8]);
+    let user = fixed::eight(&keys[8..16]);
+    AuthenticationContext::new(fixed::eight(idm), group, user)
+}
+
+fn aes_context(keys: &[u8], idm: &[u8]) -> AuthenticationContextV2Aes128
+    requires { ⌜ length (now keys) ≡ 32 ⌝ }
+    requires { ⌜ length (now idm) ≡ 8 ⌝ }
+    ensures { λ r. ⌜ (r .alpha ≡ aesAlpha (now (keys .entry)) (now (idm .entry))) × (r .beta ≡ aesBeta (now (keys .entry)) (now (idm .entry))) ⌝ }
+{
+    let group = fixed::sixteen(&keys[0..16]);
+    let individual = fixed::sixteen(&keys[16..32]);
+    AuthenticationContextV2Aes128::new(fixed::eight(idm), group, individual)
+}
+
+// 13, where a block is not the one wanted.
+fn accept(equal: bool) -> Answer
+    ensures { λ r. ⌜ Meets (decide (row 13 (isnt equal) ∷ []) (accepted 0 [])) r [] [] ⌝ }
+{
+    if equal {
+        return answer::sized(0);
+    }
+    answer::refused(13)
+}
+
+// ---- 1A: the reader makes it from its random 1, the card reads it
+
+pub fn encrypt_challenge1a(
+    scheme: u8,
+    keys: &[u8],
+    idm: &[u8],
+    random_1: &[u8],
+    out: &mut [u8],
+) -> Answer
+    ensures { λ r. ⌜ Meets (making1A scheme (now (keys .entry)) (now (idm .entry)) (now («random_1» .entry)) (length (now (out .entry)))) r (now (out .entry)) (now (out .exit)) ⌝ }
+{
+    if is_wrong(scheme, keys.len(), idm.len(), random_1.len()) {
+        return answer::refused(17);
+    }
+    if scheme == DES {
+        let context = des_context(keys, idm);
+        let block = context.encrypt_challenge1a(fixed::eight(random_1));
+        return answer::delivered(&block, out);
+    }
+    let context = aes_context(keys, idm);
+    let block = context.encrypt_challenge1a(fixed::sixteen(random_1));
+    answer::delivered(&block, out)
+}
+
+pub fn decrypt_challenge1a(
+    scheme: u8,
+    keys: &[u8],
+    idm: &[u8],
+    challenge_1a: &[u8],
+    out: &mut [u8],
+) -> Answer
+    ensures { λ r. ⌜ Meets (reading1A scheme (now (keys .entry)) (now (idm .entry)) (now («challenge_1a» .entry)) (length (now (out .entry)))) r (now (out .entry)) (now (out .exit)) ⌝ }
+{
+    if is_wrong(scheme, keys.len(), idm.len(), challenge_1a.len()) {
+        return answer::refused(17);
+    }
+    if scheme == DES {
+        let context = des_context(keys, idm);
+        let block = context.decrypt_challenge1a(fixed::eight(challenge_1a));
+        return answer::delivered(&block, out);
+    }
+    let context = aes_context(keys, idm);
+    let block = context.decrypt_challenge1a(fixed::sixteen(challenge_1a));
+    answer::delivered(&block, out)
+}
+
+// ---- 1B: the card makes it from the random 1 that it read, the reader checks it
+
+pub fn encrypt_challenge1b(
+    scheme: u8,
+    keys: &[u8],
+    idm: &[u8],
+    challenge_3c: &[u8],
+    random_1: &[u8],
+    out: &mut [u8],
+) -> Answer
+    ensures { λ r. ⌜ Meets (making1B scheme (now (keys .entry)) (now (idm .entry)) (now («challenge_3c» .entry)) (now («random_1» .entry)) (length (now (out .entry)))) r (now (out .entry)) (now (out .exit)) ⌝ }
+{
+    if is_wrong_with_3c(
+        scheme,
+        keys.len(),
+        idm.len(),
+        random_1.len(),
+        challenge_3c.len(),
+    ) {
+        return answer::refused(17);
+    }
+    if scheme == DES {
+        let context = des_context(keys, idm);
+        let block = context.encrypt_challenge1b(fixed::eight(random_1));
+        return answer::delivered(&block, out);
+    }
+    let context = aes_context(keys, idm);
+    let random = fixed::sixteen(random_1);
+    let block = context.encrypt_challenge1b(random, fixed::four(challenge_3c));
+    answer::delivered(&block, out)
+}
+
+fn is_challenge1b(
+    scheme: u8,
+    keys: &[u8],
+    idm: &[u8],
+    challenge_3c: &[u8],
+    random_1: &[u8],
+    challenge_1b: &[u8],
+) -> bool
+    requires { ⌜ wrongWith3C scheme (length (now keys)) (length (now idm)) (length (now «random_1»)) (length (now «challenge_3c»)) ≡ false ⌝ }
+    requires { ⌜ length (now «challenge_1b») ≡ blockSize scheme ⌝ }
+    ensures { λ r. ⌜ r ≡ same (now («challenge_1b» .entry)) (underBeta scheme (now (keys .entry)) (now (idm .entry)) (now («challenge_3c» .entry)) (now («random_1» .entry))) ⌝ }
+{
+    if scheme == DES {
+        let context = des_context(keys, idm);
+        let random = fixed::eight(random_1);
+        return context.verify_challenge1b(random, fixed::eight(challenge_1b));
+    }
+    let context = aes_context(keys, idm);
+    let random = fixed::sixteen(random_1);
+    let challenge = fixed::sixteen(challenge_1b);
+    context.verify_challenge1b(random, challenge, fixed::four(challenge_3c))
+}
+
+pub fn verify_challenge1b(
+    scheme: u8,
+    keys: &[u8],
+    idm: &[u8],
+    challenge_3c: &[u8],
+    random_1: &[u8],
+    challenge_1b: &[u8],
+) -> Answer
+    ensures { λ r. ⌜ Meets (checking1B scheme (now (keys .entry)) (now (idm .entry)) (now («challenge_3c» .entry)) (now («random_1» .entry)) (now («challenge_1b» .entry))) r [] [] ⌝ }
+{
+    if is_wrong_with_3c(
+        scheme,
+        keys.len(),
+        idm.len(),
+        random_1.len(),
+        challenge_3c.len(),
+    ) {
+        return answer::refused(17);
+    }
+    if challenge_1b.len() != block_size(scheme) {
+        return answer::refused(17);
+    }
+    accept(is_challenge1b(scheme, keys, idm, challenge_3c, random_1, challenge_1b))
+}
+
+// ---- 2A: the card makes it from its random 2, the reader reads it
+
+pub fn encrypt_challenge2a(
+    scheme: u8,
+    keys: &[u8],
+    idm: &[u8],
+    challenge_3c: &[u8],
+    random_2: &[u8],
+    out: &mut [u8],
+) -> Answer
+    ensures { λ r. ⌜ Meets (making2A scheme (now (keys .entry)) (now (idm .entry)) (now («challenge_3c» .entry)) (now («random_2» .entry)) (length (now (out .entry)))) r (now (out .entry)) (now (out .exit)) ⌝ }
+{
+    encrypt_challenge1b(scheme, keys, idm, challenge_3c, random_2, out)
+}
+
+pub fn decrypt_challenge2a(
+    scheme: u8,
+    keys: &[u8],
+    idm: &[u8],
+    challenge_3c: &[u8],
+    challenge_2a: &[u8],
+    out: &mut [u8],
+) -> Answer
+    ensures { λ r. ⌜ Meets (reading2A scheme (now (keys .entry)) (now (idm .entry)) (now («challenge_3c» .entry)) (now («challenge_2a» .entry)) (length (now (out .entry)))) r (now (out .entry)) (now (out .exit)) ⌝ }
+{
+    if is_wrong_with_3c(
+        scheme,
+        keys.len(),
+        idm.len(),
+        challenge_2a.len(),
+        challenge_3c.len(),
+    ) {
+        return answer::refused(17);
+    }
+    if scheme == DES {
+        let context = des_context(keys, idm);
+        let block = context.decrypt_challenge2a(fixed::eight(challenge_2a));
+        return answer::delivered(&block, out);
+    }
+    let context = aes_context(keys, idm);
+    let challenge = fixed::sixteen(challenge_2a);
+    let block = context.decrypt_challenge2a(challenge, fixed::four(challenge_3c));
+    answer::delivered(&block, out)
+}
+
+// ---- 2B: the reader makes it from the random 2 that it read, the card checks it
+
+pub fn encrypt_challenge2b(
+    scheme: u8,
+    keys: &[u8],
+    idm: &[u8],
+    random_2: &[u8],
+    out: &mut [u8],
+) -> Answer
+    ensures { λ r. ⌜ Meets (making2B scheme (now (keys .entry)) (now (idm .entry)) (now («random_2» .entry)) (length (now (out .entry)))) r (now (out .entry)) (now (out .exit)) ⌝ }
+{
+    encrypt_challenge1a(scheme, keys, idm, random_2, out)
+}
+
+fn is_challenge2b(scheme: u8, keys: &[u8], idm: &[u8], random_2: &[u8], challenge_2b: &[u8]) -> bool
+    requires { ⌜ wrong scheme (length (now keys)) (length (now idm)) (length (now «random_2»)) ≡ false ⌝ }
+    requires { ⌜ length (now «challenge_2b») ≡ blockSize scheme ⌝ }
+    ensures { λ r. ⌜ r ≡ same (now («challenge_2b» .entry)) (underAlpha scheme (now (keys .entry)) (now (idm .entry)) (now («random_2» .entry))) ⌝ }
+{
+    if scheme == DES {
+        let context = des_context(keys, idm);
+        let random = fixed::eight(random_2);
+        return context.verify_challenge2b(random, fixed::eight(challenge_2b));
+    }
+    let context = aes_context(keys, idm);
+    let random = fixed::sixteen(random_2);
+    context.verify_challenge2b(random, fixed::sixteen(challenge_2b))
+}
+
+pub fn verify_challenge2b(
+    scheme: u8,
+    keys: &[u8],
+    idm: &[u8],
+    random_2: &[u8],
+    challenge_2b: &[u8],
+) -> Answer
+    ensures { λ r. ⌜ Meets (checking2B scheme (now (keys .entry)) (now (idm .entry)) (now («random_2» .entry)) (now («challenge_2b» .entry))) r [] [] ⌝ }
+{
+    if is_wrong(scheme, keys.len(), idm.len(), random_2.len()) {
+        return answer::refused(17);
+    }
+    if challenge_2b.len() != block_size(scheme) {
+        return answer::refused(17);
+    }
+    accept(is_challenge2b(scheme, keys, idm, random_2, challenge_2b))
+}
+
+// ---- AES session keys, of random 2: cipher key, then MAC key
+
+pub fn derive_secure_session_keys(random_2: &[u8], out: &mut [u8]) -> Answer
+    ensures { λ r. ⌜ Meets (derivingSessionKeys (now («random_2» .entry)) (length (now (out .entry)))) r (now (out .entry)) (now (out .exit)) ⌝ }
+{
+    if random_2.len() != 16 {
+        return answer::refused(17);
+    }
+    let keys = v2_aes::derive_keys(fixed::sixteen(random_2));
+    let encryption_key = keys.encryption_key;
+    let mac_key = keys.mac_key;
+    let both = fixed::joined(encryption_key, mac_key);
+    answer::delivered(&both, out)
+}
