@@ -1,6 +1,7 @@
 -- What a reader and a card can rely on, in both schemes: sealing answers with the sealed data; data opens as a number and a payload exactly if
 -- it is their sealing, and is refused exactly if it is the sealing of nothing; the same for response frames. Assumes nothing.
 use mathlib.Core.Path.{_≡_, refl, sym, ap, _∙_}
+use mathlib.Core.Bool.{Bool, true, false}
 use mathlib.Core.List.{List, [], _∷_}
 use mathlib.Core.Logic.{_↔_, _⊎_, ⊎-elim}
 use Prim.Native.Nat.{ℕ, _+_, _-_, _*_, _%_, _≤_, _<_}
@@ -12,45 +13,17 @@ use Rattle.cipher.specs.Bytes.{Bytes}
 use Rattle.cipher.proofs.Numbers.{le-or-lt}
 use Rattle.frame.specs.Number.{numberOf}
 use Rattle.frame.specs.Outcome.{Outcome, refused, accepted, choose}
-use Rattle.frame.specs.AesFrame.{openedPayload}
-use Rattle.frame.specs.DesFrame.{desPlain, payloadOf}
+use Rattle.frame.specs.AesFrame.{aesSize, openedPayload}
+use Rattle.frame.specs.DesFrame.{desSize, desPlain, payloadOf}
+use Rattle.frame.specs.Inverse.{Domain, TooLarge, Frames}
+use Rattle.frame.specs.Padding.{padCount}
 use Rattle.frame.specs.Scheme.{byScheme, sealed, sealing, opening, framed, responding, sealedSize, longest}
 use Rattle.frame.proofs.AesTrip.{AesDomain, aes-opens-exactly, aes-refuses-exactly, aes-sealed-long}
 use Rattle.frame.proofs.DesTrip.{DesDomain, des-opens-exactly, des-refuses-exactly, des-sealed-long}
 use Rattle.frame.proofs.Refusals.{accepted-zero, refused-number}
 use Rattle.frame.proofs.Rooms.{des-short-room, des-means-short, aes-short-room, aes-means-short}
-use Rattle.frame.proofs.Schemes.{framing-accepted}
-use Rattle.frame.proofs.Sealing.{des-seals, aes-seals}
-
--- what sealed data carries: a number of 16 bits and up to 243 bytes for AES; in whole blocks, up to 232 for DES
-pub record Domain (scheme number : ℕ) (payload : List ℕ) : Type 0 where
-  pub small : number < 65536
-  pub short : length payload ≤ longest scheme
-  pub whole : scheme ≡ 1 → length payload % 8 ≡ 0
-  pub bytes : Bytes payload
-
--- d is the sealing of a payload that has more than `room` bytes
-pub record TooLarge (scheme : ℕ) (c id : List ℕ) (code : ℕ) (d : List ℕ) (room : ℕ) : Type 0 where
-  pub number : ℕ
-  pub payload : List ℕ
-  pub inside : Domain scheme number payload
-  pub is : d ≡ sealed scheme c code number id payload
-  pub larger : room < length payload
-
--- for a scheme, credentials, an ID and a code
-pub record Frames (scheme : ℕ) (c id : List ℕ) (code : ℕ) : Type 0 where
-  -- sealing answers 0 with the sealed data, wherever it fits the output
-  pub seals : (number room : ℕ) (payload : List ℕ) → Domain scheme number payload → sealedSize scheme (length payload) ≤ room
-      → sealing scheme c code number id payload room ≡ accepted 0 (sealed scheme c code number id payload)
-  pub size : (number : ℕ) (payload : List ℕ) → Domain scheme number payload → length (sealed scheme c code number id payload) ≡ sealedSize scheme (length payload)
-  -- data opens as number and payload exactly if it is their sealing, wherever row 16 does not arise
-  pub opens-exactly : (d : List ℕ) (room : ℕ) → Bytes d → (opening scheme c code id d room .number ≡ 16 → ⊥) → (number : ℕ) (payload : List ℕ)
-      → (opening scheme c code id d room ≡ accepted number payload) ↔ (Domain scheme number payload × (d ≡ sealed scheme c code number id payload))
-  -- and is refused exactly if it is the sealing of nothing
-  pub refuses-exactly : (d : List ℕ) (room : ℕ) → Bytes d → (opening scheme c code id d room .number ≡ 16 → ⊥)
-      → (opening scheme c code id d room .number ≡ 0 → ⊥) ↔ ((number : ℕ) (payload : List ℕ) → Domain scheme number payload → d ≡ sealed scheme c code number id payload → ⊥)
-  -- row 16 arises exactly if it is the sealing of a payload that does not fit the output
-  pub room-exactly : (d : List ℕ) (room : ℕ) → Bytes d → (opening scheme c code id d room .number ≡ 16) ↔ TooLarge scheme c id code d room
+use Rattle.frame.proofs.Schemes.{framing-accepted, framing-refused}
+use Rattle.frame.proofs.Sealing.{des-seals, aes-seals, des-seals-16, aes-seals-16}
 
 -- ---- from what opens where there is room
 
@@ -77,6 +50,11 @@ module _ (scheme : ℕ) (c id d : List ℕ) (code room : ℕ)
     λ h number payload dom e. refuses .0 h number payload dom (fits number payload dom e) e,
     λ nothing. refuses .1 (λ number payload dom l e. nothing number payload dom e),
   )
+
+choose-some : (b : Bool) (m n : ℕ) → 0 < m → 0 < n → 0 < choose b m n
+unfolding choose
+choose-some true m n h i = h
+choose-some false m n h i = i
 
 -- ---- DES
 
@@ -119,6 +97,7 @@ module _ (c id : List ℕ) (code : ℕ) (hk : length c ≡ 8) (hi : length id �
   des-frames =
       record {
         seals = λ number room payload h l. des-seals id payload code number room c (record { six = hi; all = hk; short = h .short; fits = l });
+        seals-not = λ number room payload h l. des-seals-16 id payload code number room c hi hk (h .short) l;
         size = λ number payload h. des-sealed-long c id payload code number hk hi bi hc (h .small) (h .short) (h .bytes);
         opens-exactly = λ d room bd n. exactly-here 1 c id d code room (des-exactly d room bd) (des-refuses d room bd) (des-short d room bd) n;
         refuses-exactly = λ d room bd n. refuses-here 1 c id d code room (des-exactly d room bd) (des-refuses d room bd) (des-short d room bd) n;
@@ -166,6 +145,7 @@ module _ (c id : List ℕ) (code : ℕ) (hc : length c ≡ 36) (bc : Bytes c) (h
   aes-frames =
       record {
         seals = λ number room payload h l. aes-seals id payload code number room c (record { six = hi; all = hc; short = h .short; fits = l });
+        seals-not = λ number room payload h l. aes-seals-16 id payload code number room c hi hc (h .short) l;
         size = λ number payload h. aes-sealed-long c id payload code number hc bc hi bi ho (to-aes number payload h);
         opens-exactly = λ d room bd n. exactly-here 2 c id d code room (aes-exactly d room bd) (aes-refuses d room bd) (aes-short d room bd) n;
         refuses-exactly = λ d room bd n. refuses-here 2 c id d code room (aes-exactly d room bd) (aes-refuses d room bd) (aes-short d room bd) n;
@@ -183,7 +163,8 @@ frames scheme c id code known hc bc hi bi ho =
     (λ (e : scheme ≡ 2). rw e (aes-frames c id code (rw e at hc) bc hi bi ho))
     known
 
--- a response frame is made of the sealed data, wherever it fits the output; what follows its length byte and code opens as above
+-- a response frame is made of the sealed data, wherever it fits the output, and 16 is the answer elsewhere; what follows its length byte and
+-- code opens as above
 module _ (scheme : ℕ) (c id : List ℕ) (code : ℕ) (f : Frames scheme c id code) where
   pub responds : (number room : ℕ) (payload : List ℕ) → Domain scheme number payload → sealedSize scheme (length payload) + 2 ≤ room
       → responding scheme c code number id payload room ≡ accepted 0 (framed code (sealed scheme c code number id payload))
@@ -192,6 +173,19 @@ module _ (scheme : ℕ) (c id : List ℕ) (code : ℕ) (f : Frames scheme c id c
       let e = f .seals number (room - 2) payload h (omega arith) in
       framing-accepted code _ (ap (λ (o : Outcome). o .number) e) ∙ ap (λ (o : Outcome). accepted 0 (framed code (o .bytes))) e
 
+  pub responds-not : (number room : ℕ) (payload : List ℕ) → Domain scheme number payload → 0 < sealedSize scheme (length payload) → room < sealedSize scheme (length payload) + 2
+      → responding scheme c code number id payload room ≡ refused 16
+  unfolding responding refused
+  responds-not number room payload h some l =
+      let e = f .seals-not number (room - 2) payload h (omega arith) in
+      let n : sealing scheme c code number id payload (room - 2) .number ≡ 0 → ⊥ = λ z. let q : _≡_ {A = ℕ} 16 0 = ap (λ (o : Outcome). o .number) (sym e) ∙ z in omega arith in
+      framing-refused code _ n ∙ e
+
   pub response-data : (number : ℕ) (payload : List ℕ) → drop 2 (framed code (sealed scheme c code number id payload)) ≡ sealed scheme c code number id payload
   unfolding framed
   response-data number payload = refl
+
+-- sealed data has some bytes
+pub size-some : (scheme n : ℕ) → 0 < sealedSize scheme n
+unfolding sealedSize desSize aesSize
+size-some scheme n = choose-some (eqb scheme 1) (n + 8 + padCount (n + 8) + 8) (n + 10) (omega arith) (omega arith)

@@ -2,11 +2,11 @@
 -- Assumes nothing.
 use mathlib.Core.Path.{_≡_, ap}
 use mathlib.Core.List.{List}
-use Prim.Native.Nat.{ℕ, _≤_}
-use borrow.Author.Tests.{eq-eqb, le-ltb, ltb-false}
+use Prim.Native.Nat.{ℕ, _≤_, _<_}
+use borrow.Author.Tests.{eq-eqb, lt-ltb, le-ltb, ltb-false}
 use lib.Dec.{lit<}
 use lib.ListN.{length}
-use Rattle.frame.specs.Outcome.{accepted}
+use Rattle.frame.specs.Outcome.{refused, accepted, choose, decide}
 use Rattle.frame.specs.AesFrame.{aesSealed, aesSize, aesSealing}
 use Rattle.frame.specs.DesFrame.{desSealed, desSize, desSealing}
 use Rattle.frame.proofs.Decides.{decide-false, either-false, is-number}
@@ -29,6 +29,15 @@ module _ (id payload : List ℕ) (code number room : ℕ) where
       → aesSealing c code number id payload room ≡ accepted 0 (aesSealed c code number id payload)
   unfolding aesSealing
   aes-seals c h = decide-false _ _ (either-of _ _ (isnt-of _ (eq-eqb _ _ (h .six))) (isnt-of _ (eq-eqb _ _ (h .all))), (le-ltb _ _ (h .short), (le-ltb _ _ (h .fits), tt)))
+
+  -- 16 where only the room is missing
+  pub des-seals-16 : (key : List ℕ) → length id ≡ 6 → length key ≡ 8 → length payload ≤ 232 → room < desSize (length payload) → desSealing key code number id payload room ≡ refused 16
+  unfolding desSealing decide choose
+  des-seals-16 key hi hk hp hr = rw (either-of _ _ (isnt-of _ (eq-eqb _ _ hi)) (isnt-of _ (eq-eqb _ _ hk)), le-ltb _ _ hp, lt-ltb _ _ hr)
+
+  pub aes-seals-16 : (c : List ℕ) → length id ≡ 6 → length c ≡ 36 → length payload ≤ 243 → room < aesSize (length payload) → aesSealing c code number id payload room ≡ refused 16
+  unfolding aesSealing decide choose
+  aes-seals-16 c hi hc hp hr = rw (either-of _ _ (isnt-of _ (eq-eqb _ _ hi)) (isnt-of _ (eq-eqb _ _ hc)), le-ltb _ _ hp, lt-ltb _ _ hr)
 
   pub des-seals-only : (key : List ℕ) → desSealing key code number id payload room .number ≡ 0 → Seals 8 232 (desSize (length payload)) (length id) (length key) (length payload) room
   unfolding desSealing

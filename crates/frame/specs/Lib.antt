@@ -5,6 +5,7 @@ pub mod Delivery
 pub mod DesFrame
 pub mod DesSteps
 pub mod Guards
+pub mod Inverse
 pub mod Number
 pub mod Outcome
 pub mod Package

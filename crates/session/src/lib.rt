@@ -24,3 +24,4 @@ pub use context::Stepped;
 pub use des::AuthenticationContext;
 pub use types::is_key_free_service;
 pub use v2_aes::AuthenticationContextV2Aes128;
+pub use v2_aes::SecureSessionKeys;
