@@ -4,9 +4,9 @@ use mathlib.Core.Path.{_≡_, refl, ap, _∙_}
 use mathlib.Core.Bool.{Bool, true, false}
 use mathlib.Core.List.{List, [], _∷_, _++_}
 use mathlib.Core.Logic.{_⊎_, ⊎-elim}
-use Prim.Native.Nat.{ℕ, _≤_}
+use Prim.Native.Nat.{ℕ, _≤_, _<_}
 use native.Mathlib.Omega.{arith}
-use borrow.Author.Tests.{eq-eqb, le-ltb}
+use borrow.Author.Tests.{eq-eqb, lt-ltb, le-ltb}
 use lib.Dec.{eqb, lit<}
 use lib.ListN.{length, take, drop, replicate, length-append, length-drop}
 use lib.Seq.{length-take-le}
@@ -15,8 +15,9 @@ use Rattle.cipher.specs.Fips46.{tdea2Encrypt, tdea2Decrypt}
 use Rattle.cipher.proofs.ByteLists.{Block, Bytes-append, Bytes-take, Bytes-drop, Bytes-replicate}
 use Rattle.cipher.proofs.Ciphers.{aesEncrypt-block, aes-undone, aes-redone}
 use Rattle.cipher.proofs.DesInverse.{tdea2-decrypt-encrypt, tdea2-encrypt-decrypt, length-tdea2Encrypt, length-tdea2Decrypt, Bytes-tdea2Encrypt, Bytes-tdea2Decrypt}
+use Rattle.cipher.proofs.Numbers.{le-or-lt}
 use Rattle.cipher.proofs.ModeLaws.{Undone, Block-⊕}
-use Rattle.frame.specs.Outcome.{row, accepted, choose, decide}
+use Rattle.frame.specs.Outcome.{row, refused, accepted, choose, decide}
 use Rattle.frame.specs.Tests.{isnt, either, same}
 use Rattle.frame.proofs.Decides.{decide-false, isnt-false}
 use Rattle.frame.proofs.Refusals.{zero-passes, isnt-of, either-of, same-of}
@@ -113,6 +114,28 @@ module _ (s : ℕ) (keys idm : List ℕ) (e : Ends s keys idm) where
   unfolding giving decide choose
   gives bad b room h f = rw (h, le-ltb room (blockSize s) f)
 
+  -- where row 16 does not arise, there is room
+  large : (bad : Bool) (b : List ℕ) (room : ℕ) → bad ≡ false → (giving bad s room b .number ≡ 16 → ⊥) → blockSize s ≤ room
+  unfolding giving decide choose refused
+  large bad b room h f =
+      ⊎-elim
+      (λ (l : blockSize s ≤ room). l)
+      (λ (l : room < blockSize s). absurd (f (rw (h, lt-ltb room (blockSize s) l))))
+      (le-or-lt (blockSize s) room)
+
+  module _ (x : List ℕ) (g : Block (blockSize s) x) (room : ℕ) where
+    pub room-1a : (making1A s keys idm x room .number ≡ 16 → ⊥) → blockSize s ≤ room
+    unfolding making1A
+    room-1a = large _ (underAlpha s keys idm x) room (right x (g .long))
+
+    pub room-read-1a : (reading1A s keys idm x room .number ≡ 16 → ⊥) → blockSize s ≤ room
+    unfolding reading1A
+    room-read-1a = large _ (underAlphaBack s keys idm x) room (right x (g .long))
+
+    pub room-2b : (making2B s keys idm x room .number ≡ 16 → ⊥) → blockSize s ≤ room
+    unfolding making2B
+    room-2b = large _ (underAlpha s keys idm x) room (right x (g .long))
+
   module _ (x : List ℕ) (g : Block (blockSize s) x) (room : ℕ) (f : blockSize s ≤ room) where
     pub makes-1a : making1A s keys idm x room ≡ accepted 0 (underAlpha s keys idm x)
     unfolding making1A
@@ -162,6 +185,19 @@ module _ (s : ℕ) (keys idm : List ℕ) (e : Ends s keys idm) where
     right-3c : (x : List ℕ) → length x ≡ blockSize s → wrongWith3C s (length keys) (length idm) (length x) (length c3) ≡ false
     unfolding wrongWith3C
     right-3c x h = either-of _ _ (right x h) (isnt-of _ (eq-eqb _ _ (f3 .long)))
+
+    module _ (x : List ℕ) (g : Block (blockSize s) x) (room : ℕ) where
+      pub room-1b : (making1B s keys idm c3 x room .number ≡ 16 → ⊥) → blockSize s ≤ room
+      unfolding making1B
+      room-1b = large _ (underBeta s keys idm c3 x) room (right-3c x (g .long))
+
+      pub room-2a : (making2A s keys idm c3 x room .number ≡ 16 → ⊥) → blockSize s ≤ room
+      unfolding making2A
+      room-2a = large _ (underBeta s keys idm c3 x) room (right-3c x (g .long))
+
+      pub room-read-2a : (reading2A s keys idm c3 x room .number ≡ 16 → ⊥) → blockSize s ≤ room
+      unfolding reading2A
+      room-read-2a = large _ (underBetaBack s keys idm c3 x) room (right-3c x (g .long))
 
     module _ (x : List ℕ) (g : Block (blockSize s) x) (room : ℕ) (f : blockSize s ≤ room) where
       pub makes-1b : making1B s keys idm c3 x room ≡ accepted 0 (underBeta s keys idm c3 x)
@@ -219,6 +255,14 @@ module _ (x : List ℕ) (g : Block 16 x) where
   pub makes-session-keys : (room : ℕ) → 32 ≤ room → derivingSessionKeys x room ≡ accepted 0 (sessionKeys x)
   unfolding derivingSessionKeys decide choose isnt
   makes-session-keys room f = rw (eq-eqb (length x) 16 (g .long), le-ltb room 32 f)
+
+  pub room-session-keys : (room : ℕ) → (derivingSessionKeys x room .number ≡ 16 → ⊥) → 32 ≤ room
+  unfolding derivingSessionKeys decide choose isnt refused
+  room-session-keys room f =
+      ⊎-elim
+      (λ (l : 32 ≤ room). l)
+      (λ (l : room < 32). absurd (f (rw (eq-eqb (length x) 16 (g .long), lt-ltb room 32 l))))
+      (le-or-lt 32 room)
 
 -- the session keys of the random 2 that the reader read are those of the random 2 that the card sent
 pub same-session-keys : (keys idm c3 x : List ℕ) (room room′ room″ : ℕ) → Ends 2 keys idm → Block 4 c3 → Block 16 x → 16 ≤ room → 16 ≤ room′ → 32 ≤ room″

@@ -1,4 +1,5 @@
 pub mod Agreeing
+pub mod Agrees
 pub mod Challenges
 pub mod Nodes
 pub mod Sessions

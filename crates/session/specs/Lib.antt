@@ -1,3 +1,4 @@
+pub mod Agreement
 pub mod Challenge
 pub mod Derivation
 pub mod Entries
