@@ -3,4 +3,5 @@ pub mod Challenge
 pub mod Derivation
 pub mod Entries
 pub mod ServiceCode
+pub mod History
 pub mod Session
