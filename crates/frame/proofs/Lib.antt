@@ -2,6 +2,7 @@ pub mod AesOpens
 pub mod AesSeals
 pub mod AesTrip
 pub mod Authentications
+pub mod Corners
 pub mod Decides
 pub mod DesOpens
 pub mod DesSeals

@@ -4,3 +4,4 @@ pub mod Challenges
 pub mod Histories
 pub mod Nodes
 pub mod Sessions
+pub mod Tables

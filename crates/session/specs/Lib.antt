@@ -5,3 +5,4 @@ pub mod Entries
 pub mod ServiceCode
 pub mod History
 pub mod Session
+pub mod Table
