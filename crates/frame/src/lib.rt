@@ -5,7 +5,6 @@ mod answer;
 mod command;
 mod deliver;
 mod des;
-mod ffi;
 mod fixed;
 mod number;
 mod secure;

@@ -4,6 +4,7 @@ mod answer;
 mod challenge;
 mod context;
 mod des;
+mod ffi;
 mod fixed;
 mod types;
 mod v2_aes;

@@ -1,7 +1,7 @@
 use Rattle.frame.proofs.Packs.{meets-returns}
 use borrow.Author.Needs.{needs}
-use Rattle.frame.proofs.ffi.felica_decrypt_response_trimmed_des.Statement.{statement}
-use Rattle.frame.proofs.ffi.felica_decrypt_response_trimmed_des.Tie as tie
+use Rattle.session.proofs.ffi.felica_decrypt_response_trimmed_des.Statement.{statement}
+use Rattle.session.proofs.ffi.felica_decrypt_response_trimmed_des.Tie as tie
 
 open-trimmed-des-requires : tie.Need-open-trimmed-des-requires
 open-trimmed-des-requires c κs = search needs

@@ -1,8 +1,8 @@
 use native.Mathlib.Omega.{arith}
 use Rattle.frame.proofs.Packs.{forecast-packed}
 use borrow.Author.Needs.{needs}
-use Rattle.frame.proofs.ffi.felica_forecast.Statement.{statement}
-use Rattle.frame.proofs.ffi.felica_forecast.Tie as tie
+use Rattle.session.proofs.ffi.felica_forecast.Statement.{statement}
+use Rattle.session.proofs.ffi.felica_forecast.Tie as tie
 
 forecast-requires : tie.Need-forecast-requires
 forecast-requires c κs = search needs

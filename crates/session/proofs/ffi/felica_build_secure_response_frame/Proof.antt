@@ -1,7 +1,7 @@
 use Rattle.frame.proofs.Packs.{meets-returns}
 use borrow.Author.Needs.{needs}
-use Rattle.frame.proofs.ffi.felica_build_secure_response_frame.Statement.{statement}
-use Rattle.frame.proofs.ffi.felica_build_secure_response_frame.Tie as tie
+use Rattle.session.proofs.ffi.felica_build_secure_response_frame.Statement.{statement}
+use Rattle.session.proofs.ffi.felica_build_secure_response_frame.Tie as tie
 
 build-secure-response-frame-requires : tie.Need-build-secure-response-frame-requires
 build-secure-response-frame-requires c κs = search needs

@@ -1,9 +1,9 @@
 use Rattle.frame.proofs.Packs.{meets-returns}
 use borrow.Author.Needs.{needs}
-use Rattle.frame.proofs.ffi.felica_decrypt_authentication2_payload_v2_aes128.Statement.{
+use Rattle.session.proofs.ffi.felica_decrypt_authentication2_payload_v2_aes128.Statement.{
   statement,
 }
-use Rattle.frame.proofs.ffi.felica_decrypt_authentication2_payload_v2_aes128.Tie as tie
+use Rattle.session.proofs.ffi.felica_decrypt_authentication2_payload_v2_aes128.Tie as tie
 
 decrypt-authentication2-payload-v2-aes128-requires :
     tie.Need-decrypt-authentication2-payload-v2-aes128-requires

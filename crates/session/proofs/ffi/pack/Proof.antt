@@ -1,8 +1,8 @@
 use native.Mathlib.Omega.{arith}
 use Rattle.frame.specs.Packed.{packed}
 use borrow.Author.Needs.{needs}
-use Rattle.frame.proofs.ffi.pack.Statement.{statement}
-use Rattle.frame.proofs.ffi.pack.Tie as tie
+use Rattle.session.proofs.ffi.pack.Statement.{statement}
+use Rattle.session.proofs.ffi.pack.Tie as tie
 
 cast-result : tie.Need-cast-result
 cast-result c = search needs

@@ -1,9 +1,9 @@
 use Rattle.frame.proofs.Packs.{meets-returns}
 use borrow.Author.Needs.{needs}
-use Rattle.frame.proofs.ffi.felica_decrypt_authentication2_payload_des.Statement.{
+use Rattle.session.proofs.ffi.felica_decrypt_authentication2_payload_des.Statement.{
   statement,
 }
-use Rattle.frame.proofs.ffi.felica_decrypt_authentication2_payload_des.Tie as tie
+use Rattle.session.proofs.ffi.felica_decrypt_authentication2_payload_des.Tie as tie
 
 decrypt-authentication2-payload-requires : tie.Need-decrypt-authentication2-payload-requires
 decrypt-authentication2-payload-requires c κs = search needs

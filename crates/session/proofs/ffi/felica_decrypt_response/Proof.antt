@@ -1,7 +1,7 @@
 use Rattle.frame.proofs.Packs.{meets-returns}
 use borrow.Author.Needs.{needs}
-use Rattle.frame.proofs.ffi.felica_decrypt_response.Statement.{statement}
-use Rattle.frame.proofs.ffi.felica_decrypt_response.Tie as tie
+use Rattle.session.proofs.ffi.felica_decrypt_response.Statement.{statement}
+use Rattle.session.proofs.ffi.felica_decrypt_response.Tie as tie
 
 decrypt-response-requires : tie.Need-decrypt-response-requires
 decrypt-response-requires c κs = search needs

@@ -1,7 +1,7 @@
 use Rattle.frame.proofs.Packs.{meets-returns}
 use borrow.Author.Needs.{needs}
-use Rattle.frame.proofs.ffi.felica_generate_registration_package_des.Statement.{statement}
-use Rattle.frame.proofs.ffi.felica_generate_registration_package_des.Tie as tie
+use Rattle.session.proofs.ffi.felica_generate_registration_package_des.Statement.{statement}
+use Rattle.session.proofs.ffi.felica_generate_registration_package_des.Tie as tie
 
 generate-registration-package-des-requires : tie.Need-generate-registration-package-des-requires
 generate-registration-package-des-requires c κs = search needs

@@ -1,7 +1,7 @@
 use Rattle.frame.proofs.Packs.{meets-returns}
 use borrow.Author.Needs.{needs}
-use Rattle.frame.proofs.ffi.felica_encrypt_command.Statement.{statement}
-use Rattle.frame.proofs.ffi.felica_encrypt_command.Tie as tie
+use Rattle.session.proofs.ffi.felica_encrypt_command.Statement.{statement}
+use Rattle.session.proofs.ffi.felica_encrypt_command.Tie as tie
 
 encrypt-command-requires : tie.Need-encrypt-command-requires
 encrypt-command-requires c κs = search needs
