@@ -15,7 +15,7 @@ use Rattle.cipher.proofs.AesInverse.{aes-decrypt-encrypt, aes-encrypt-d
 use Rattle.cipher.proofs.AesLengths.{aesEncrypt-long, aesEncrypt-bytes, aesDecrypt-long, aesDecrypt-bytes}
 use Rattle.cipher.proofs.DesInverse.{des-decrypt-encrypt, des-encrypt-decrypt, length-desEncrypt, length-desDecrypt, Bytes-desEncrypt, Bytes-desDecrypt}
 use Rattle.cipher.proofs.ModeLaws.{Undone, length-cbcEncrypt, Bytes-cbcEncrypt, length-cbcDecrypt, Bytes-cbcDecrypt, cbc-decrypt-encrypt, cbc-encrypt-decrypt, length-ofb, ofb-twice, ofb-parts, input-block, Bytes-ofb}
-use Rattle.cipher.proofs.Folds.{good-under, good-back, back-under, under-back, under-alike, back-alike}
+use Rattle.cipher.proofs.Folds.{good-under, good-under-whole, good-back, back-under, under-back, under-alike, back-alike}
 use Rattle.cipher.proofs.Macs.{mac-block}
 use Rattle.cipher.proofs.Parity.{des-encrypt-halves, des-decrypt-halves}
 
@@ -104,6 +104,11 @@ module _ (keys keys′ s : List ℕ) (e : map (λ x. x / 2) keys ≡ map (λ x. 
 
   pub des-back-halves : underEachBack desDecrypt 8 keys s ≡ underEachBack desDecrypt 8 keys′ s
   des-back-halves = back-alike (λ x. x / 2) desDecrypt 8 (λ k k′ b h. des-decrypt-halves k k′ h b) keys keys′ s e
+
+-- ---- the AES fold, over n whole keys
+
+pub aes-under-block : (n : ℕ) (keys s : List ℕ) → Block (n * 16) keys → Block 16 s → Block 16 (underEach aesEncrypt 16 keys s)
+aes-under-block = good-under-whole aesEncrypt 16 (lit< tt) (Block 16) (λ k b h g. aesEncrypt-block k h b)
 
 -- ---- AES OFB and CMAC
 

@@ -1,13 +1,14 @@
 -- The laws of the folds (specs/Fold), over any block cipher and any width above 0. Assumes nothing.
 use mathlib.Core.Path.{_≡_, refl, sym, ap, _∙_}
 use mathlib.Core.List.{List, [], _∷_, map}
-use Prim.Native.Nat.{ℕ, zero, suc, _+_, _-_, _/_, _≤_, _<_}
-use native.Mathlib.Nat.{sub-zero, div-eq-sub-div, div-eq-of-lt}
+use Prim.Native.Nat.{ℕ, zero, suc, _+_, _-_, _*_, _/_, _≤_, _<_}
+use native.Mathlib.Nat.{sub-zero, suc-mul, div-eq-sub-div, div-eq-of-lt, mul-div-cancel}
 use native.Mathlib.Numerals.{add-one}
 use native.Mathlib.Omega.{arith}
-use lib.ListN.{length, length-map, take, drop}
-use lib.Seq.{drop-drop}
+use lib.ListN.{length, length-map, length-drop, take, drop}
+use lib.Seq.{drop-drop, length-take-le}
 use Rattle.cipher.specs.Fold.{underFrom, underEach, backFrom, underEachBack}
+use Rattle.cipher.proofs.ByteLists.{Block, Bytes-take, Bytes-drop}
 
 module _ (CIPH : List ℕ → List ℕ → List ℕ) (w : ℕ) where
   -- a loop forward: what is left to do from the state s, with the keys from `at` on, gives the whole
@@ -71,6 +72,23 @@ module _ (E : List ℕ → List ℕ → List ℕ) (w : ℕ) (Good : List ℕ →
   pub good-back : (keys s : List ℕ) → Good s → Good (underEachBack E w keys s)
   unfolding underEachBack
   good-back keys s g = good-back-from (length keys / w) s keys g
+
+-- the same of a cipher that keeps it under whole keys only
+module _ (E : List ℕ → List ℕ → List ℕ) (w : ℕ) (pos : 0 < w) (Good : List ℕ → Type 0) (stays : (k b : List ℕ) → Block w k → Good b → Good (E k b)) where
+  good-under-whole-from : (n : ℕ) (s keys : List ℕ) → Block (n * w) keys → Good s → Good (underFrom E w s n keys)
+  unfolding underFrom
+  good-under-whole-from zero s keys h g = g
+  good-under-whole-from (suc n) s keys h g =
+      let l = h .long in
+      let m : length keys ≡ n * w + w = l ∙ suc-mul n w in
+      let q : w ≤ length keys = omega arith in
+      let first : Block w (take w keys) = record { long = length-take-le w keys q; bytes = Bytes-take w keys (h .bytes) } in
+      let rest : Block (n * w) (drop w keys) = record { long = length-drop w keys ∙ omega arith; bytes = Bytes-drop w keys (h .bytes) } in
+      good-under-whole-from n (E (take w keys) s) (drop w keys) rest (stays (take w keys) s first g)
+
+  pub good-under-whole : (n : ℕ) (keys s : List ℕ) → Block (n * w) keys → Good s → Good (underEach E w keys s)
+  unfolding underEach
+  good-under-whole n keys s h g = let e : length keys / w ≡ n = ap (λ (k : ℕ). k / w) (h .long) ∙ mul-div-cancel n pos in rw e (good-under-whole-from n s keys h g)
 
 -- ---- the way back undoes the fold, and the fold the way back, for a cipher whose two directions undo one another on good blocks
 module _ (E D : List ℕ → List ℕ → List ℕ) (w : ℕ) (Good : List ℕ → Type 0)

@@ -1,7 +1,7 @@
 -- Statement 3, proved: what two ends with the same derived keys agree on. Assumes nothing.
 use mathlib.Core.Path.{_≡_, refl, sym, ap, ap₂, _∙_}
 use mathlib.Core.List.{List, [], _++_}
-use mathlib.Core.Logic.{_↔_, _⊎_, ⊎-elim}
+use mathlib.Core.Logic.{_↔_, _⊎_, inl, inr, ⊎-elim}
 use Prim.Native.Nat.{ℕ, _+_, _≤_, _<_}
 use native.Mathlib.Omega.{arith}
 use lib.Dec.{eqb}
@@ -16,6 +16,8 @@ use Rattle.frame.proofs.Frames.{frames, responds, responds-not, size-some}
 use Rattle.frame.proofs.Refusals.{accepted-zero, refused-number}
 use Rattle.session.specs.Agreement.{Fits, Fixed, Inputs, made1A, read1, made2A, read2, made1B, made2B, credentials, End, reader, card, Agreement}
 use Rattle.session.specs.Challenge.{blockSize, underAlpha, underBeta, making1A, reading1A, checking1B, checking2B, sessionKeys, derivingSessionKeys}
+use Rattle.session.specs.Derivation.{Derived, derivation}
+use Rattle.session.proofs.Accepted.{Given, derivation-gives}
 use Rattle.session.proofs.Agreeing as two
 
 -- the number of an acceptance
@@ -198,3 +200,21 @@ module _ (s : ℕ) (keys idm random1 random2 c3 id key : List ℕ) (code : ℕ) 
         opens-exactly = λ c c′ x y d room bd f number payload. rw (same-ends c c′ x y) (here c′ y .opens-exactly d room bd f number payload);
         refuses-exactly = λ c c′ x y d room bd f. rw (same-ends c c′ x y) (here c′ y .refuses-exactly d room bd f);
       }
+
+-- ---- from a derivation that answers 0 at both ends
+
+ends : (d : Derived) (idm : List ℕ) → Given d → Fixed 8 idm → two.Ends (d .scheme) (d .bytes) idm
+unfolding choose
+ends d idm g h =
+    ⊎-elim
+    (λ (p : (d .scheme ≡ 1) × (length (d .bytes) ≡ 16)). record { known = inl (p .0); keys-are = rw (p .0) (record { long = p .1; bytes = g .bytes-are }); idm-is = fixed-block 8 idm h })
+    (λ (p : (d .scheme ≡ 2) × (length (d .bytes) ≡ 32)). record { known = inr (p .0); keys-are = rw (p .0) (record { long = p .1; bytes = g .bytes-are }); idm-is = fixed-block 8 idm h })
+    (g .known)
+
+pub agreement : (mark room : ℕ) (keys areas services individual : List ℕ) → Bytes keys → Bytes individual → derivation mark keys areas services individual room .number ≡ 0
+    → (idm random1 random2 c3 id key : List ℕ) (code : ℕ) → Inputs (derivation mark keys areas services individual room .scheme) idm random1 random2 c3 id key code
+    → Agreement (derivation mark keys areas services individual room .scheme) (derivation mark keys areas services individual room .bytes) idm random1 random2 c3 id key code
+agreement mark room keys areas services individual bk bi zero idm random1 random2 c3 id key code i =
+    let d : Derived = derivation mark keys areas services individual room in
+    let g = derivation-gives mark keys areas services individual bk bi room zero in
+    agrees (d .scheme) (d .bytes) idm random1 random2 c3 id key code (ends d idm g (i .idm-is)) i

@@ -1,7 +1,12 @@
+pub mod Accepted
 pub mod Agreeing
 pub mod Agrees
 pub mod Challenges
+pub mod Derives
+pub mod Gathers
 pub mod Histories
+pub mod NodeLists
 pub mod Nodes
+pub mod Places
 pub mod Sessions
 pub mod Tables

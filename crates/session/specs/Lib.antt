@@ -1,6 +1,7 @@
 pub mod Agreement
 pub mod Challenge
 pub mod Derivation
+pub mod Derives
 pub mod Entries
 pub mod ServiceCode
 pub mod History

@@ -1,12 +1,12 @@
 // The session after authentication (AuthenticatedContext of mod.rs), by value.
+use crate::types;
 use frame::Answer;
 ghost use mathlib.Core.Path.{_≡_};
 ghost use Prim.Native.Nat.{_+_, _*_, _≤_};
-ghost use lib.ListN.{length, take, drop};
+ghost use lib.ListN.{length, take};
 ghost use Rattle.frame.specs.Guards.{firstOf};
 ghost use Rattle.session.specs.Session.{makeRows, nothing, established, Makes, withNumber, counting, Steps, listedCount, firstPlace, indexIn, index, acceptRows, Receives, receiving, credentialsSize, credentialsOf};
 ghost use Rattle.session.specs.Entries.{nodes as nodeList};
-ghost use Rattle.frame.specs.Number.{numberOf};
 ghost use Rattle.frame.specs.Outcome.{Meets};
 ghost use Rattle.frame.specs.Scheme.{opening};
 
@@ -151,14 +151,6 @@ fn listed(node_count: u16) -> usize
     64
 }
 
-// The node that stands at a place of a list.
-fn node_at(nodes: &[u8], at: usize) -> u16
-    requires { ⌜ at + 2 ≤ length (now nodes) ⌝ }
-    ensures { λ r. ⌜ r ≡ numberOf (drop at (now (nodes .entry))) ⌝ }
-{
-    frame::number_of_bytes(nodes[at], nodes[at + 1])
-}
-
 // The first place of a node in a list; how many nodes it has where there is none.
 fn first_place(nodes: &[u8], node: u16) -> usize
     ensures { λ r. ⌜ r ≡ firstPlace (nodeList (now (nodes .entry))) node ⌝ }
@@ -166,7 +158,7 @@ fn first_place(nodes: &[u8], node: u16) -> usize
     let n = nodes.len() / 2;
     let mut i = 0;
     while i < n {
-        if node_at(nodes, i * 2) == node {
+        if types::node_at(nodes, i * 2) == node {
             return i;
         }
         i += 1;

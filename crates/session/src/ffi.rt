@@ -1,5 +1,6 @@
 // The operations as C functions. Callers pass numbers and byte slices, and get one number of 64 bits (specs/Packed).
 use crate::challenge;
+use crate::keys;
 use frame::Answer;
 ghost use mathlib.Core.Path.{_≡_};
 ghost use mathlib.Core.List.{[]};
@@ -8,16 +9,39 @@ ghost use Rattle.frame.specs.Packed.{packed, packedNumber, packedLength, Return
 ghost use Rattle.frame.specs.Scheme.{sealing, opening, responding, Forecast};
 ghost use Rattle.frame.specs.Trimmed.{trimmedOpening};
 ghost use Rattle.frame.specs.Authentication2.{auth2Sealing, auth2Opening, auth2OpeningAes};
+ghost use Rattle.session.specs.Derivation.{derivation};
+ghost use Rattle.session.specs.Derives.{ReturnsDerived};
 ghost use Rattle.session.specs.Challenge.{making1A, reading1A, making1B, checking1B, making2A, reading2A, making2B, checking2B, derivingSessionKeys};
 ghost use Rattle.frame.specs.Package.{packaging};
+
+// Number, scheme mark, length, and a transaction number or a node, as C gets them.
+fn pack_all(number: u8, scheme: u8, length: u16, value: u16) -> u64
+    ensures { λ r. ⌜ r ≡ packed number scheme length value ⌝ }
+{
+    number as u64 + scheme as u64 * 256 + length as u64 * 65536 + value as u64 * 4294967296
+}
 
 // An answer as C gets it.
 fn pack(answer: Answer) -> u64
     ensures { λ r. ⌜ r ≡ packed (answer .number) 0 (answer .length) (answer .«transaction_number») ⌝ }
 {
-    answer.number as u64
-        + answer.length as u64 * 65536
-        + answer.transaction_number as u64 * 4294967296
+    pack_all(answer.number, 0, answer.length, answer.transaction_number)
+}
+
+// Derives the keys of an authentication: group and user key for DES, group and individual key for AES.
+#[no_mangle]
+pub extern "C" fn felica_derive_auth_keys(
+    mark: u8,
+    keys: &[u8],
+    areas: &[u8],
+    services: &[u8],
+    individual: &[u8],
+    out: &mut [u8],
+) -> u64
+    ensures { λ r. ⌜ ReturnsDerived (derivation mark (now (keys .entry)) (now (areas .entry)) (now (services .entry)) (now (individual .entry)) (length (now (out .entry)))) r (now (out .entry)) (now (out .exit)) ⌝ }
+{
+    let derived = keys::derive_auth_keys(mark, keys, areas, services, individual, out);
+    pack_all(derived.number, derived.scheme, derived.length, derived.node)
 }
 
 // Makes 1A: the reader, from its random 1.

@@ -1,11 +1,12 @@
-// The FeliCa secure session: service codes, challenges of the authentication, the session after it. No public function asks anything of its
-// caller; a refusal has a number and writes nothing.
+// The FeliCa secure session: service codes, key derivation, challenges of the authentication, the session after it, and the C functions of
+// all crates. No public function asks anything of its caller; a refusal has a number and writes nothing.
 mod answer;
 mod challenge;
 mod context;
 mod des;
 mod ffi;
 mod fixed;
+mod keys;
 mod types;
 mod v2_aes;
 
@@ -23,6 +24,8 @@ pub use context::Made;
 pub use context::Received;
 pub use context::Stepped;
 pub use des::AuthenticationContext;
+pub use keys::DerivedAuthKeys;
+pub use keys::derive_auth_keys;
 pub use types::is_key_free_service;
 pub use v2_aes::AuthenticationContextV2Aes128;
 pub use v2_aes::SecureSessionKeys;

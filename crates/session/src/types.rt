@@ -1,5 +1,8 @@
-// Service codes (types.rs).
+// Nodes and service codes (types.rs).
 ghost use mathlib.Core.Path.{_≡_};
+ghost use Prim.Native.Nat.{_+_, _≤_};
+ghost use lib.ListN.{length, drop};
+ghost use Rattle.frame.specs.Number.{numberOf};
 ghost use Rattle.session.specs.ServiceCode.{keyFree};
 
 // Whether a service is authentication-free: it holds a key, and a DES chain skips it.
@@ -14,4 +17,12 @@ pub fn is_key_free_service(service: u16) -> bool
         return false;
     }
     attributes < 24
+}
+
+// The node at index at of a list.
+pub(crate) fn node_at(list: &[u8], at: usize) -> u16
+    requires { ⌜ at + 2 ≤ length (now list) ⌝ }
+    ensures { λ r. ⌜ r ≡ numberOf (drop at (now (list .entry))) ⌝ }
+{
+    frame::number_of_bytes(list[at], list[at + 1])
 }

@@ -1,7 +1,7 @@
 use Rattle.session.proofs.Nodes.{number-at}
 use borrow.Author.Needs.{needs}
-use Rattle.session.proofs.context.node_at.Statement.{statement}
-use Rattle.session.proofs.context.node_at.Tie as tie
+use Rattle.session.proofs.types.node_at.Statement.{statement}
+use Rattle.session.proofs.types.node_at.Tie as tie
 
 shared-slice-read-number-of-bytes : tie.Need-shared-slice-read-number-of-bytes
 shared-slice-read-number-of-bytes c = search needs
@@ -18,7 +18,7 @@ number-of-bytes-requires c κs = search needs
 returns : tie.Need-returns
 returns c =
     let a = c .before .before .before .before .args in
-    number-at (a .nodes .now) (a .at) _ (c .number-of-bytes .ensures)
+    number-at (a .list .now) (a .at) _ (c .number-of-bytes .ensures)
 
 pub node-at-spec : {M : Type 1} → statement M
 node-at-spec =

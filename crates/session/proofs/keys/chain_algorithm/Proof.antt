@@ -1,0 +1,79 @@
+use Rattle.session.proofs.Derives.{chooses-mark, chooses-none, chooses-aes, chooses-des, chooses-lacking}
+use borrow.Author.Needs.{needs}
+use Rattle.session.proofs.keys.chain_algorithm.Statement.{statement}
+use Rattle.session.proofs.keys.chain_algorithm.Tie as tie
+
+by-scheme-requires : tie.Need-by-scheme-requires
+by-scheme-requires c κs = search needs
+
+returns : tie.Need-returns
+returns c = chooses-mark _ _ _ _ _ (c .before .if1 .taken) (c .by-scheme .ensures)
+
+add-listed : tie.Need-add-listed
+add-listed c = search needs
+
+refused-requires : tie.Need-refused-requires
+refused-requires c κs = search needs
+
+returns-2 : tie.Need-returns-2
+returns-2 c = chooses-none _ _ _ _ _ (c .before .before .if1 .left) (c .before .if2 .taken) (c .refused .ensures)
+
+target-node-requires : tie.Need-target-node-requires
+target-node-requires c κs = search needs
+
+has-key-requires : tie.Need-has-key-requires
+has-key-requires c κs = search needs
+
+by-scheme-requires-2 : tie.Need-by-scheme-requires-2
+by-scheme-requires-2 c κs = search needs
+
+returns-3 : tie.Need-returns-3
+returns-3 c =
+    let i = c .before in
+    let t = i .before .before in
+    let e = t .before in
+    chooses-aes _ _ _ _ _ (e .before .if1 .left) (e .if2 .left) _ (t .target-node .ensures) _ (i .before .has-key .ensures) (i .if3 .taken) (c .by-scheme2 .ensures)
+
+has-key-requires-2 : tie.Need-has-key-requires-2
+has-key-requires-2 c κs = search needs
+
+by-scheme-requires-3 : tie.Need-by-scheme-requires-3
+by-scheme-requires-3 c κs = search needs
+
+returns-4 : tie.Need-returns-4
+returns-4 c =
+    let j = c .before in
+    let i = j .before .before in
+    let t = i .before .before in
+    let e = t .before in
+    chooses-des _ _ _ _ _ (e .before .if1 .left) (e .if2 .left) _ (t .target-node .ensures) _ (i .before .has-key .ensures) (i .if3 .left) _ (j .before .has-key2 .ensures) (j .if4 .taken) (c .by-scheme3 .ensures)
+
+refused-requires-2 : tie.Need-refused-requires-2
+refused-requires-2 c κs = search needs
+
+returns-5 : tie.Need-returns-5
+returns-5 c =
+    let j = c .before in
+    let i = j .before .before in
+    let t = i .before .before in
+    let e = t .before in
+    chooses-lacking _ _ _ _ _ (e .before .if1 .left) (e .if2 .left) _ (t .target-node .ensures) _ (i .before .has-key .ensures) (i .if3 .left) _ (j .before .has-key2 .ensures) (j .if4 .left) (c .refused2 .ensures)
+
+pub chain-algorithm-spec : {M : Type 1} → statement M
+chain-algorithm-spec =
+    tie.close
+    (tie.spec
+    by-scheme-requires
+    returns
+    add-listed
+    refused-requires
+    returns-2
+    target-node-requires
+    has-key-requires
+    by-scheme-requires-2
+    returns-3
+    has-key-requires-2
+    by-scheme-requires-3
+    returns-4
+    refused-requires-2
+    returns-5)

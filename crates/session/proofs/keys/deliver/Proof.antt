@@ -1,0 +1,80 @@
+use mathlib.Core.Path.{_≡_, refl, sym}
+use Prim.Native.Nat.{_+_, _-_, _≤_, _<_}
+use mathlib.Core.List.{_++_}
+use lib.ListN.{length, length-append}
+use Rattle.frame.proofs.Overs.{copied-over}
+use Rattle.frame.proofs.Pieces.{copied-next}
+use Rattle.session.proofs.Derives.{short-derives, delivery-derives}
+use borrow.Author.Needs.{needs}
+use native.Mathlib.Omega.{arith}
+use Rattle.session.proofs.keys.deliver.Statement.{statement}
+use Rattle.session.proofs.keys.deliver.Tie as tie
+
+add-size : tie.Need-add-size
+add-size c = search needs
+
+refused-requires : tie.Need-refused-requires
+refused-requires c κs = search needs
+
+returns : tie.Need-returns
+returns c =
+    let i = c .before in
+    let a = i .before .before .before .before .args in
+    let e = length-append (a .first .now) (a .second .now) in
+    let h : length (a .out .now) < length (a .first .now ++ a .second .now) = omega arith in
+    short-derives (a .scheme) (a .first .now ++ a .second .now) _ (a .out .now) h (c .refused .ensures)
+
+copy-requires : tie.Need-copy-requires
+copy-requires c κs = search needs
+
+sub-copy : tie.Need-sub-copy
+sub-copy c = search needs
+
+part-copy-start : tie.Need-part-copy-start
+part-copy-start c = search needs
+
+part-copy-end : tie.Need-part-copy-end
+part-copy-end c = search needs
+
+copy-requires-2 : tie.Need-copy-requires-2
+copy-requires-2 c κs = search needs
+
+cast-t15 : tie.Need-cast-t15
+cast-t15 c = search needs
+
+same-length : tie.Need-same-length
+same-length c = search needs
+
+returns-2 : tie.Need-returns-2
+returns-2 c =
+    let c2 = c .before .before in
+    let c1 = c2 .before .before .before .before in
+    let i = c1 .before .before in
+    let a = i .before .before .before .before .args in
+    let x = a .first .now in
+    let y = a .second .now in
+    let o = a .out .now in
+    let e = length-append x y in
+    let left = i .if1 .left in
+    let h : length (x ++ y) ≤ length o = omega arith in
+    let g : length x ≤ length o = omega arith in
+    let k : length y ≡ length x + length y - length x = omega arith in
+    let m : length x + (length x + length y - length x) ≤ length o = omega arith in
+    delivery-derives (a .scheme) (x ++ y) _ o _ h refl refl refl (sym e)
+    (copied-next x o _ (length x) (length x + length y - length x) refl m (copied-over x o _ g (c1 .copy .ensures)) y _ k (c2 .copy2 .ensures))
+
+pub deliver-spec : {M : Type 1} → statement M
+deliver-spec =
+    tie.close
+    (tie.spec
+    add-size
+    refused-requires
+    returns
+    copy-requires
+    sub-copy
+    part-copy-start
+    part-copy-end
+    copy-requires-2
+    cast-t15
+    same-length
+    returns-2)

@@ -1,0 +1,95 @@
+use mathlib.Core.Path.{refl}
+use mathlib.Core.List.{[], _∷_}
+use Rattle.session.proofs.Places.{has-none, has-one}
+use Rattle.session.proofs.Gathers.{holds-stuck, holds-lacks, holds-stored}
+use borrow.Author.Needs.{needs}
+use native.Mathlib.Omega.{arith}
+use Rattle.session.proofs.keys.gather_one.Statement.{statement}
+use Rattle.session.proofs.keys.gather_one.Tie as tie
+
+returns : tie.Need-returns
+returns c = (omega arith, λ ns s. holds-stuck _ _ ns _ _ s (_ ∷ []) (c .if1 .taken))
+
+find-key-requires : tie.Need-find-key-requires
+find-key-requires c κs = search needs
+
+lacking-requires : tie.Need-lacking-requires
+lacking-requires c κs = search needs
+
+returns-2 : tie.Need-returns-2
+returns-2 c =
+    let l = c .lacking .ensures in
+    let i = c .before in
+    let f = i .before in
+    (omega arith, λ ns s. holds-lacks _ _ ns _ _ s (f .before .if1 .left) _ _ (has-none _ _ _ _ (f .find-key .ensures) (i .if2 .taken)) (l .0) (l .1) (l .2))
+
+mul-width : tie.Need-mul-width
+mul-width c = search needs
+
+mul-key : tie.Need-mul-key
+mul-key c = let h = has-one _ _ _ _ (c .before .find-key .ensures) (c .if2 .left) .0 in omega arith
+
+add-key : tie.Need-add-key
+add-key c = let h = has-one _ _ _ _ (c .before .find-key .ensures) (c .if2 .left) .0 in omega arith
+
+add-key-end : tie.Need-add-key-end
+add-key-end c = let h = has-one _ _ _ _ (c .before .find-key .ensures) (c .if2 .left) .0 in omega arith
+
+add-end : tie.Need-add-end
+add-end c = search needs
+
+sub-copy : tie.Need-sub-copy
+sub-copy c = search needs
+
+part-copy-start : tie.Need-part-copy-start
+part-copy-start c = search needs
+
+part-copy-end : tie.Need-part-copy-end
+part-copy-end c = let h = has-one _ _ _ _ (c .before .find-key .ensures) (c .if2 .left) .0 in omega arith
+
+sub-copy-2 : tie.Need-sub-copy-2
+sub-copy-2 c = search needs
+
+part-copy-start-2 : tie.Need-part-copy-start-2
+part-copy-start-2 c = search needs
+
+part-copy-end-2 : tie.Need-part-copy-end-2
+part-copy-end-2 c = search needs
+
+copy-requires : tie.Need-copy-requires
+copy-requires c κs = search needs
+
+same-length : tie.Need-same-length
+same-length c = search needs
+
+returns-3 : tie.Need-returns-3
+returns-3 c =
+    let cp = c .before .before in
+    let i = cp .before .before .before in
+    let f = i .before in
+    let st = f .before .before .before .before in
+    let h = has-one _ _ _ _ (f .find-key .ensures) (i .if2 .left) in
+    (omega arith, λ ns s. holds-stored _ _ _ _ (st .pre .0) (f .find-key .ensures) (h .0) (h .1) ns _ _ s (f .before .if1 .left) (st .pre .1) _ _ refl refl refl (cp .copy .ensures))
+
+pub gather-one-spec : {M : Type 1} → statement M
+gather-one-spec =
+    tie.close
+    (tie.spec
+    returns
+    find-key-requires
+    lacking-requires
+    returns-2
+    mul-width
+    mul-key
+    add-key
+    add-key-end
+    add-end
+    sub-copy
+    part-copy-start
+    part-copy-end
+    sub-copy-2
+    part-copy-start-2
+    part-copy-end-2
+    copy-requires
+    same-length
+    returns-3)
