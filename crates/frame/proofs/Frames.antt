@@ -18,8 +18,9 @@ use Rattle.frame.specs.DesFrame.{desSize, desPlain, payloadOf}
 use Rattle.frame.specs.Inverse.{Domain, TooLarge, Frames}
 use Rattle.frame.specs.Padding.{padCount}
 use Rattle.frame.specs.Scheme.{byScheme, sealed, sealing, opening, framed, responding, sealedSize, longest}
-use Rattle.frame.proofs.AesTrip.{AesDomain, aes-opens-exactly, aes-refuses-exactly, aes-sealed-long}
-use Rattle.frame.proofs.DesTrip.{DesDomain, des-opens-exactly, des-refuses-exactly, des-sealed-long}
+use Rattle.frame.proofs.AesTrip.{AesDomain, aes-opens, aes-opens-exactly, aes-refuses-exactly, aes-sealed-long}
+use Rattle.frame.proofs.DesSeals.{size-most}
+use Rattle.frame.proofs.DesTrip.{DesDomain, des-opens, des-opens-exactly, des-refuses-exactly, des-sealed-long}
 use Rattle.frame.proofs.Refusals.{accepted-zero, refused-number}
 use Rattle.frame.proofs.Rooms.{des-short-room, des-means-short, aes-short-room, aes-means-short}
 use Rattle.frame.proofs.Schemes.{framing-accepted, framing-refused}
@@ -50,6 +51,11 @@ module _ (scheme : ℕ) (c id d : List ℕ) (code room : ℕ)
     λ h number payload dom e. refuses .0 h number payload dom (fits number payload dom e) e,
     λ nothing. refuses .1 (λ number payload dom l e. nothing number payload dom e),
   )
+
+choose-short : (b : Bool) (n : ℕ) → n ≤ choose b 232 243 → (choose b (desSize n) (n + 10) ≤ 253) × (n ≤ 243)
+unfolding choose
+choose-short true n h = let m = size-most n h in (omega arith, omega arith)
+choose-short false n h = (omega arith, omega arith)
 
 choose-some : (b : Bool) (m n : ℕ) → 0 < m → 0 < n → 0 < choose b m n
 unfolding choose
@@ -162,6 +168,21 @@ frames scheme c id code known hc bc hi bi ho =
     (λ (e : scheme ≡ 1). rw e (des-frames c id code (rw e at hc) hi bi ho))
     (λ (e : scheme ≡ 2). rw e (aes-frames c id code (rw e at hc) bc hi bi ho))
     known
+
+-- what was sealed opens, wherever the payload fits the output
+pub opens : (scheme : ℕ) (c id : List ℕ) (code : ℕ) → (scheme ≡ 1) ⊎ (scheme ≡ 2) → length c ≡ choose (eqb scheme 1) 8 36 → Bytes c → length id ≡ 6 → Bytes id → code < 256 → (number room : ℕ) (payload : List ℕ)
+    → Domain scheme number payload → length payload ≤ room → opening scheme c code id (sealed scheme c code number id payload) room ≡ accepted number payload
+unfolding opening byScheme sealed choose
+opens scheme c id code known hc bc hi bi ho number room payload h l =
+    ⊎-elim
+    (λ (e : scheme ≡ 1). rw e (des-opens c id code room (rw e at hc) hi bi ho number payload (to-des c id code (rw e at hc) hi bi ho number payload (rw e at h)) l))
+    (λ (e : scheme ≡ 2). rw e (aes-opens c id code room (rw e at hc) bc hi bi ho number payload (to-aes c id code (rw e at hc) bc hi bi ho number payload (rw e at h)) l))
+    known
+
+-- sealed data has at most 253 bytes, and a payload at most 243
+pub size-short : (scheme n : ℕ) → n ≤ longest scheme → (sealedSize scheme n ≤ 253) × (n ≤ 243)
+unfolding sealedSize longest aesSize
+size-short scheme n = choose-short (eqb scheme 1) n
 
 -- a response frame is made of the sealed data, wherever it fits the output, and 16 is the answer elsewhere; what follows its length byte and
 -- code opens as above

@@ -211,3 +211,12 @@ module _ (scheme n : ℕ) (r : Answer) where
   pub longest-aes : scheme ≡ 2 → (longest scheme ≡ 243) × (either (eqb scheme 1) (eqb scheme 2) ≡ true) × (sealedSize scheme n ≡ aesSize n)
   unfolding longest sealedSize choose either
   longest-aes e = rw e (refl, refl, refl)
+
+-- the longest payload of each scheme
+pub longest-is-des : (scheme : ℕ) → scheme ≡ 1 → longest scheme ≡ 232
+unfolding longest choose
+longest-is-des scheme e = rw e
+
+pub longest-is-aes : (scheme : ℕ) → scheme ≡ 2 → longest scheme ≡ 243
+unfolding longest choose
+longest-is-aes scheme e = rw e

@@ -145,3 +145,8 @@ module _ (mark : ℕ) (keys areas services individual : List ℕ) (b : Bytes key
   derivation-gives room h =
       let e = accepted-is room h in
       rw e (derived-gives (ap (λ (d : Derived). d .number) (sym e) ∙ h))
+
+  -- both ends derive the same, whatever their room
+  pub same-derivation : (room room′ : ℕ) → derivation mark keys areas services individual room .number ≡ 0 → derivation mark keys areas services individual room′ .number ≡ 0
+      → derivation mark keys areas services individual room ≡ derivation mark keys areas services individual room′
+  same-derivation room room′ h k = accepted-is room h ∙ sym (accepted-is room′ k)

@@ -8,5 +8,6 @@ pub mod Histories
 pub mod NodeLists
 pub mod Nodes
 pub mod Places
+pub mod Plays
 pub mod Sessions
 pub mod Tables

@@ -61,7 +61,7 @@ module _ (number : ℕ) (s : AuthenticatedContext) where
 
 -- ---- making
 
-choose-most : (b : Bool) (m n k : ℕ) → m ≤ k → n ≤ k → choose b m n ≤ k
+pub choose-most : (b : Bool) (m n k : ℕ) → m ≤ k → n ≤ k → choose b m n ≤ k
 unfolding choose
 choose-most true m n k h i = h
 choose-most false m n k h i = i

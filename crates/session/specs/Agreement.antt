@@ -1,6 +1,6 @@
 -- Statement 3: a reader and a card with the same inputs read each other's random blocks, accept exactly the right 1B and 2B, derive the same
 -- session keys, and opening is the exact inverse of sealing, for every code and all bytes. Assumes nothing.
-use Prim.Native.Nat.{ℕ, _<_}
+use Prim.Native.Nat.{ℕ, _%_, _≤_, _<_}
 use mathlib.Core.Path.{_≡_}
 use mathlib.Core.List.{List, [], _++_}
 use mathlib.Core.Logic.{_↔_, _⊎_}
@@ -9,7 +9,7 @@ use lib.ListN.{length}
 use Rattle.cipher.specs.Bytes.{Bytes}
 use Rattle.frame.specs.Inverse.{Domain}
 use Rattle.frame.specs.Outcome.{Outcome, accepted, choose}
-use Rattle.frame.specs.Scheme.{sealed, sealing, opening, framed, responding}
+use Rattle.frame.specs.Scheme.{sealed, sealing, opening, framed, responding, longest}
 use Rattle.session.specs.Challenge.{blockSize, making1A, reading1A, making1B, checking1B, making2A, reading2A, making2B, checking2B, derivingSessionKeys}
 
 -- an output is large enough if row 16 does not arise
@@ -30,6 +30,14 @@ pub record Inputs (scheme : ℕ) (idm random1 random2 c3 id key : List ℕ) (cod
   pub id-is : Fixed 6 id
   pub key-is : Fixed 8 key
   pub one : code < 256
+
+-- lengths of credentials, ID and payload with which a command is sealed and opened: for DES, whole blocks
+pub record Sealable (scheme credentials id payload : ℕ) : Type 0 where
+  pub known : (scheme ≡ 1) ⊎ (scheme ≡ 2)
+  pub all : credentials ≡ choose (eqb scheme 1) 8 36
+  pub six : id ≡ 6
+  pub fits : payload ≤ longest scheme
+  pub whole : scheme ≡ 1 → payload % 8 ≡ 0
 
 -- the scheme and the keys that derivation gave
 module _ (scheme : ℕ) (keys idm random1 random2 c3 id key : List ℕ) (code : ℕ) where

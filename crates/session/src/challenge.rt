@@ -51,7 +51,13 @@ fn is_wrong(scheme: u8, keys: usize, idm: usize, block: usize) -> bool
     block != size
 }
 
-fn is_wrong_with_3c(scheme: u8, keys: usize, idm: usize, block: usize, challenge_3c: usize) -> bool
+pub(crate) fn is_wrong_with_3c(
+    scheme: u8,
+    keys: usize,
+    idm: usize,
+    block: usize,
+    challenge_3c: usize,
+) -> bool
     ensures { λ r. ⌜ r ≡ wrongWith3C scheme keys idm block «challenge_3c» ⌝ }
 {
     if is_wrong(scheme, keys, idm, block) {

@@ -1,5 +1,6 @@
 // The FeliCa secure session: service codes, key derivation, challenges of the authentication, the session after it, and the C functions of
 // all crates. No public function asks anything of its caller; a refusal has a number and writes nothing.
+mod agreement;
 mod answer;
 mod challenge;
 mod context;
@@ -10,6 +11,7 @@ mod keys;
 mod types;
 mod v2_aes;
 
+pub use agreement::play;
 pub use challenge::decrypt_challenge1a;
 pub use challenge::decrypt_challenge2a;
 pub use challenge::derive_secure_session_keys;
