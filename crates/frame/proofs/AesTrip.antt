@@ -1,25 +1,24 @@
 -- AES frames: an opening of sealed data gives what was sealed, and only sealed data opens. Assumes nothing.
 use mathlib.Core.Path.{_≡_, refl, sym, ap, ap₂, _∙_}
-use mathlib.Core.Bool.{Bool, true, false}
-use mathlib.Core.List.{List, [], _∷_, _++_, append-assoc}
+use mathlib.Core.List.{List, [], _∷_, _++_}
 use mathlib.Core.Logic.{_↔_}
-use Prim.Native.Nat.{ℕ, zero, suc, _+_, _-_, _*_, _/_, _%_, _≤_, _<_}
-use native.Mathlib.Nat.{mod-lt, mod-eq-of-lt, add-comm}
+use Prim.Native.Nat.{ℕ, _+_, _-_, _*_, _/_, _%_, _≤_, _<_}
+use native.Mathlib.Nat.{mod-lt, mod-eq-of-lt}
 use native.Mathlib.Omega.{arith}
 use borrow.Author.Tests.{eqb-true, eq-eqb, ltb-false, le-ltb}
 use lib.Dec.{eqb, ltb, lit<}
-use lib.ListN.{length, take, drop, getD, replicate, length-append, length-take, length-drop, take-append-drop}
+use lib.ListN.{length, take, drop, getD, length-append, length-drop, take-append-drop}
 use lib.Seq.{take-at, drop-at, length-take-le, drop-drop}
 use Rattle.cipher.specs.Bytes.{Bytes}
 use Rattle.cipher.specs.Fips197.{aesEncrypt}
-use Rattle.cipher.specs.Sp80038a.{blocks, ofb, ofbInput}
+use Rattle.cipher.specs.Sp80038a.{blocks, ofb}
 use Rattle.cipher.specs.Sp80038b.{cmac, R128}
 use Rattle.cipher.proofs.ByteLists.{Block, Bytes-cons, Bytes-append, Bytes-take, Bytes-drop}
 use Rattle.cipher.proofs.Ciphers.{length-aes-ofb, aes-ofb-twice, Bytes-aes-ofb, aes-input-block, aes-cmac-block}
 use Rattle.frame.specs.Number.{numberBytes}
-use Rattle.frame.specs.Outcome.{Outcome, refused, accepted, row, decide}
+use Rattle.frame.specs.Outcome.{Outcome, accepted, row}
 use Rattle.frame.specs.Tests.{isnt, either, same}
-use Rattle.frame.specs.AesFrame.{cipherKey, macKey, challenge3C, aesIv, aesMac, macInput, aesSealed, aesSize, aesSealing, openedIv, openedPayload, openedMac, aesOpening}
+use Rattle.frame.specs.AesFrame.{cipherKey, macKey, challenge3C, aesIv, aesMac, macInput, aesSealed, aesSize, openedIv, openedPayload, openedMac, aesOpening}
 use Rattle.frame.proofs.Decides.{AllFalse, decide-false, isnt-false, either-false}
 use Rattle.frame.proofs.Refusals.{zero-passes, accepted-zero, accepted-number, accepted-bytes, isnt-of, either-of, same-of}
 use Rattle.frame.proofs.Sames.{same-equal}

@@ -1,11 +1,10 @@
 -- Authentication 2, step by step. Assumes nothing.
-use mathlib.Core.Path.{_≡_, refl, sym, ap, _∙_}
-use mathlib.Core.Bool.{Bool, true, false}
-use mathlib.Core.List.{List, [], _∷_}
+use mathlib.Core.Path.{_≡_, refl}
+use mathlib.Core.Bool.{true, false}
+use mathlib.Core.List.{List}
 use Prim.Native.Nat.{ℕ, _+_, _-_, _%_, _≤_, _<_}
 use native.Mathlib.Omega.{arith}
 use borrow.Author.Tests.{lt-ltb, le-ltb, ltb-false}
-use lib.Dec.{eqb, ltb}
 use lib.ListN.{length, take}
 use Rattle.frame.specs.Authentication2.{auth2Code, auth2Size, auth2SealRows, auth2OpenRows, auth2Accepting}
 use Rattle.frame.specs.Delivery.{delivering}

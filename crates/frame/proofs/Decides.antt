@@ -1,12 +1,12 @@
 -- How `decide` goes by its rows, what a guard's number says of them, and when an answer meets an outcome. Assumes nothing.
 use mathlib.Core.Path.{_≡_, refl, sym, ap, _∙_}
 use mathlib.Core.Bool.{Bool, true, false}
-use mathlib.Core.List.{List, [], _∷_, _++_}
+use mathlib.Core.List.{List, [], _∷_}
 use Prim.Native.Nat.{ℕ, _≤_, _<_}
 use native.Mathlib.Omega.{arith}
 use borrow.Author.Tests.{eqb-true, ltb-true, lt-ltb, le-ltb}
 use lib.Dec.{eqb, ltb}
-use lib.ListN.{length, drop}
+use lib.ListN.{length}
 use Rattle.frame.specs.Outcome.{Outcome, Row, Meets, refused, accepted, choose, decide, over}
 use Rattle.frame.specs.Tests.{isnt, either, both}
 use Rattle.frame.specs.Guards.{firstOf}

@@ -1,16 +1,15 @@
 -- DES opening, step by step. Assumes nothing.
-use mathlib.Core.Path.{_≡_, refl, sym, ap, ap₂, _∙_}
+use mathlib.Core.Path.{_≡_, refl, ap, ap₂, _∙_}
 use mathlib.Core.Bool.{Bool, true, false}
-use mathlib.Core.List.{List, [], _∷_, _++_}
-use Prim.Native.Nat.{ℕ, _+_, _-_, _*_, _%_, _≤_, _<_}
+use mathlib.Core.List.{List}
+use Prim.Native.Nat.{ℕ, _+_, _-_, _%_, _≤_}
 use native.Mathlib.Omega.{arith}
 use borrow.Author.Tests.{ltb-false}
-use lib.Dec.{eqb, ltb}
+use lib.Dec.{eqb}
 use lib.ListN.{length, take, drop, length-drop}
 use lib.Seq.{take-all}
 use Rattle.cipher.specs.Fips46.{desDecrypt}
 use Rattle.cipher.specs.Fold.{underEachBack}
-use Rattle.frame.specs.Number.{numberOf}
 use Rattle.frame.specs.Outcome.{decide, choose}
 use Rattle.frame.specs.Delivery.{delivering}
 use Rattle.frame.specs.DesFrame.{macStart, recovered, macHolds, desPlain, idOf, payloadOf, desOpening}

@@ -1,12 +1,11 @@
 -- DES sealing, step by step: padding, MAC and encryption over the front of an output. Assumes nothing.
 use mathlib.Core.Path.{_≡_, refl, sym, ap, _∙_}
 use mathlib.Core.List.{List, [], _∷_, _++_}
-use mathlib.Core.Bool.{false}
 use Prim.Native.Nat.{ℕ, suc, _+_, _-_, _/_, _%_, _≤_, _<_}
 use native.Mathlib.Omega.{arith}
 use borrow.Author.Tests.{ltb-false}
-use lib.Dec.{eqb, ltb}
-use lib.ListN.{length, take, drop, set, replicate, length-append, length-drop, length-set, length-replicate}
+use lib.Dec.{eqb}
+use lib.ListN.{length, take, drop, set, replicate, length-append, length-set, length-replicate}
 use lib.Seq.{length-take-le}
 use Rattle.cipher.specs.Fips46.{desEncrypt}
 use Rattle.cipher.specs.Sp80038a.{cbcEncrypt, onWhole}

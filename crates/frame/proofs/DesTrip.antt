@@ -1,14 +1,14 @@
 -- DES frames: an opening of sealed data gives what was sealed, and only sealed data opens. Assumes nothing.
 use mathlib.Core.Path.{_≡_, refl, sym, ap, ap₂, _∙_}
-use mathlib.Core.Bool.{Bool, true, false}
+use mathlib.Core.Bool.{true}
 use mathlib.Core.List.{List, [], _∷_, _++_, append-assoc}
 use mathlib.Core.Logic.{_↔_}
-use Prim.Native.Nat.{ℕ, zero, suc, _+_, _-_, _*_, _/_, _%_, _≤_, _<_}
+use Prim.Native.Nat.{ℕ, suc, _+_, _-_, _*_, _/_, _%_, _≤_, _<_}
 use native.Mathlib.Nat.{mod-lt, mod-eq-of-lt, add-comm}
 use native.Mathlib.Omega.{arith}
 use borrow.Author.Tests.{eqb-true, eq-eqb, ltb-false, le-ltb}
 use lib.Dec.{eqb, ltb, lit<}
-use lib.ListN.{length, take, drop, getD, replicate, length-append, length-take, length-drop, take-append-drop}
+use lib.ListN.{length, take, drop, replicate, length-append, length-drop, take-append-drop}
 use lib.Seq.{take-at, drop-at, length-take-le, take-add}
 use Rattle.cipher.specs.Bytes.{Bytes}
 use Rattle.cipher.specs.Fips46.{desEncrypt, desDecrypt}
@@ -17,10 +17,10 @@ use Rattle.cipher.specs.Sp80038a.{cbcEncrypt, cbcDecrypt}
 use Rattle.cipher.proofs.ByteLists.{Block, Bytes-cons, Bytes-append, Bytes-take, Bytes-drop, Bytes-replicate}
 use Rattle.cipher.proofs.Ciphers.{des-cbc-decrypt-encrypt, des-cbc-encrypt-decrypt, length-des-cbc, length-des-cbc-back, Bytes-des-cbc-back, des-under-block, des-back-under, des-under-back}
 use Rattle.frame.specs.Number.{numberOf}
-use Rattle.frame.specs.Outcome.{Outcome, refused, accepted, row, decide}
+use Rattle.frame.specs.Outcome.{Outcome, accepted, row}
 use Rattle.frame.specs.Padding.{padCount, pad}
 use Rattle.frame.specs.Tests.{isnt, either, same}
-use Rattle.frame.specs.DesFrame.{macStart, desMac, recovered, macHolds, desSeal, header, desSealed, desSize, desSealing, desPlain, idOf, payloadOf, desOpening}
+use Rattle.frame.specs.DesFrame.{macStart, desMac, recovered, macHolds, desSeal, header, desSealed, desSize, desPlain, idOf, payloadOf, desOpening}
 use Rattle.frame.proofs.Pads.{length-pad, padCount-small, padCount-whole, padCount-header, pad-none, pad-after, Bytes-pad}
 use Rattle.frame.proofs.Decides.{AllFalse, decide-false, isnt-false, either-false}
 use Rattle.frame.proofs.Refusals.{zero-passes, accepted-zero, accepted-number, accepted-bytes, isnt-of, either-of, same-of}

@@ -2,9 +2,9 @@
 -- it is their sealing, and is refused exactly if it is the sealing of nothing; the same for response frames. Assumes nothing.
 use mathlib.Core.Path.{_≡_, refl, sym, ap, _∙_}
 use mathlib.Core.Bool.{Bool, true, false}
-use mathlib.Core.List.{List, [], _∷_}
+use mathlib.Core.List.{List}
 use mathlib.Core.Logic.{_↔_, _⊎_, ⊎-elim}
-use Prim.Native.Nat.{ℕ, _+_, _-_, _*_, _%_, _≤_, _<_}
+use Prim.Native.Nat.{ℕ, _+_, _-_, _*_, _≤_, _<_}
 use native.Mathlib.Nat.{le-refl}
 use native.Mathlib.Omega.{arith}
 use lib.Dec.{eqb}
@@ -21,7 +21,7 @@ use Rattle.frame.specs.Scheme.{byScheme, sealed, sealing, opening, frame
 use Rattle.frame.proofs.AesTrip.{AesDomain, aes-opens, aes-opens-exactly, aes-refuses-exactly, aes-sealed-long}
 use Rattle.frame.proofs.DesSeals.{size-most}
 use Rattle.frame.proofs.DesTrip.{DesDomain, des-opens, des-opens-exactly, des-refuses-exactly, des-sealed-long}
-use Rattle.frame.proofs.Refusals.{accepted-zero, refused-number}
+use Rattle.frame.proofs.Refusals.{refused-number}
 use Rattle.frame.proofs.Rooms.{des-short-room, des-means-short, aes-short-room, aes-means-short}
 use Rattle.frame.proofs.Schemes.{framing-accepted, framing-refused}
 use Rattle.frame.proofs.Sealing.{des-seals, aes-seals, des-seals-16, aes-seals-16}

@@ -1,7 +1,7 @@
 -- What an output holds after pieces were written one behind the other: `over` of all of them. Assumes nothing.
 use mathlib.Core.Path.{_≡_, refl, sym, ap, _∙_}
 use mathlib.Core.List.{List, [], _∷_, _++_, append-assoc, append-nil}
-use Prim.Native.Nat.{ℕ, zero, suc, _+_, _-_, _≤_}
+use Prim.Native.Nat.{ℕ, _+_, _-_, _≤_}
 use native.Mathlib.Omega.{arith}
 use lib.ListN.{length, take, drop, replicate, set, length-append, length-drop, length-replicate, take-append-drop, drop-of-length-le}
 use lib.Seq.{take-at, drop-at, take-all, drop-drop, length-take-le, drop-append-le, drop-append-add}

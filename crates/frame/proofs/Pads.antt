@@ -1,7 +1,7 @@
 -- The laws of padding (specs/Padding). Assumes nothing.
-use mathlib.Core.Path.{_≡_, refl, sym, ap, _∙_}
-use mathlib.Core.List.{List, [], _∷_, _++_, append-nil, append-assoc}
-use Prim.Native.Nat.{ℕ, _+_, _-_, _%_, _≤_, _<_}
+use mathlib.Core.Path.{_≡_, ap, _∙_}
+use mathlib.Core.List.{List, _++_, append-nil, append-assoc}
+use Prim.Native.Nat.{ℕ, _+_, _-_, _%_, _<_}
 use native.Mathlib.Omega.{arith}
 use lib.ListN.{length, replicate, length-append, length-replicate}
 use Rattle.cipher.specs.Bytes.{Bytes}

@@ -1,6 +1,5 @@
 -- Row 16 of an opening: it is the last, and arises exactly where the output is smaller than the payload. Assumes nothing.
 use mathlib.Core.Path.{_≡_, refl, sym, ap, _∙_}
-use mathlib.Core.Bool.{Bool, true, false}
 use mathlib.Core.List.{List, [], _∷_, _++_}
 use mathlib.Core.Logic.{⊎-elim}
 use Prim.Native.Nat.{ℕ, _+_, _*_, _≤_, _<_}
@@ -8,7 +7,6 @@ use native.Mathlib.Nat.{le-refl}
 use native.Mathlib.Omega.{arith}
 use lib.Dec.{lit<}
 use lib.ListN.{length, getD}
-use Rattle.cipher.specs.Bytes.{Bytes}
 use Rattle.cipher.proofs.Numbers.{le-or-lt}
 use Rattle.frame.specs.Number.{numberOf}
 use Rattle.frame.specs.Outcome.{Outcome, Row, refused, accepted, row, decide}

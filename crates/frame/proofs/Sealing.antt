@@ -1,6 +1,6 @@
 -- Sealing answers with the sealed data, for each number and each payload that fits, wherever there is room; and it answers 0 nowhere else.
 -- Assumes nothing.
-use mathlib.Core.Path.{_≡_, ap}
+use mathlib.Core.Path.{_≡_}
 use mathlib.Core.List.{List}
 use Prim.Native.Nat.{ℕ, _≤_, _<_}
 use borrow.Author.Tests.{eq-eqb, lt-ltb, le-ltb, ltb-false}

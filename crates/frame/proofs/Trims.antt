@@ -1,13 +1,11 @@
 -- Trimmed opening, from the opening into a work block of 256 bytes. Assumes nothing.
 use mathlib.Core.Path.{_≡_, refl, sym, ap, _∙_}
-use mathlib.Core.Bool.{Bool, true, false}
-use mathlib.Core.List.{List, [], _∷_, _++_}
+use mathlib.Core.List.{List, _++_}
 use mathlib.Core.Logic.{⊎-elim}
-use Prim.Native.Nat.{ℕ, _+_, _-_, _*_, _/_, _%_, _≤_, _<_}
+use Prim.Native.Nat.{ℕ, _+_, _-_, _/_, _%_, _≤_, _<_}
 use native.Mathlib.Omega.{arith}
 use borrow.Author.Tests.{ltb-false}
-use lib.Dec.{eqb, ltb}
-use lib.ListN.{length, take, drop, getD, length-drop, length-take}
+use lib.ListN.{length, take, getD, length-take}
 use Rattle.cipher.specs.Bytes.{Bytes}
 use Rattle.cipher.proofs.Ciphers.{length-des-cbc-back}
 use Rattle.cipher.proofs.Numbers.{le-or-lt}

@@ -1,13 +1,13 @@
 -- Sealed AES data: number 2 (low byte first), cipher payload, cipher MAC 8. Assumes nothing.
-use Prim.Native.Nat.{ℕ, _+_, _-_, _*_, _/_, _%_}
+use Prim.Native.Nat.{ℕ, _+_, _-_, _/_, _%_}
 use mathlib.Core.List.{List, [], _∷_, _++_}
 use lib.Dec.{eqb, ltb}
-use lib.ListN.{length, take, drop, getD}
+use lib.ListN.{length, take, drop}
 use Rattle.cipher.specs.Fips197.{aesEncrypt}
 use Rattle.cipher.specs.Sp80038a.{blocks, ofb, ofbInput}
 use Rattle.cipher.specs.Sp80038b.{cmac, R128}
 use Rattle.frame.specs.Number.{numberBytes, numberOf}
-use Rattle.frame.specs.Outcome.{Outcome, refused, accepted, row, decide}
+use Rattle.frame.specs.Outcome.{Outcome, accepted, row, decide}
 use Rattle.frame.specs.Tests.{isnt, either, same}
 
 -- the credentials: cipher key 16, MAC key 16, Challenge 3C 4

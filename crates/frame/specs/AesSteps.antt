@@ -1,8 +1,7 @@
 -- AES sealing and opening in steps: the rows that go by lengths alone, and what is left of an opening once there is a payload. Assumes nothing.
-use Prim.Native.Nat.{ℕ, _+_, _*_}
+use Prim.Native.Nat.{ℕ}
 use mathlib.Core.List.{List, [], _∷_}
 use lib.Dec.{eqb, ltb}
-use lib.ListN.{getD}
 use Rattle.frame.specs.Number.{numberOf}
 use Rattle.frame.specs.Outcome.{Outcome, Row, row, decide}
 use Rattle.frame.specs.Delivery.{delivering}

@@ -1,14 +1,14 @@
 -- Sealed DES data: number 2 (low byte first), ID 6, payload, padding, MAC 8; CBC, zero IV. Assumes nothing.
-use Prim.Native.Nat.{ℕ, _+_, _-_, _*_, _/_, _%_}
+use Prim.Native.Nat.{ℕ, _+_, _-_, _%_}
 use mathlib.Core.Bool.{Bool}
 use mathlib.Core.List.{List, [], _∷_, _++_}
 use lib.Dec.{eqb, ltb}
-use lib.ListN.{length, take, drop, getD, replicate}
+use lib.ListN.{length, take, drop, replicate}
 use Rattle.cipher.specs.Fips46.{desEncrypt, desDecrypt}
 use Rattle.cipher.specs.Fold.{underEach, underEachBack}
 use Rattle.cipher.specs.Sp80038a.{cbcEncrypt, cbcDecrypt}
 use Rattle.frame.specs.Number.{numberBytes, numberOf}
-use Rattle.frame.specs.Outcome.{Outcome, refused, accepted, row, decide}
+use Rattle.frame.specs.Outcome.{Outcome, accepted, row, decide}
 use Rattle.frame.specs.Padding.{padCount, pad}
 use Rattle.frame.specs.Tests.{isnt, either, same}
 

@@ -1,6 +1,5 @@
 // What every operation answers.
 ghost use mathlib.Core.Path.{_≡_};
-ghost use mathlib.Core.List.{List};
 
 // number: 0, or that of the refusal; length: how many bytes were written. A refusal has 0 in both other fields.
 pub struct Answer {

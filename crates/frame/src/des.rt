@@ -8,7 +8,6 @@ use crate::secure;
 ghost use mathlib.Core.Path.{_≡_};
 ghost use Prim.Native.Nat.{_+_, _-_, _%_, _≤_};
 ghost use lib.ListN.{length, take};
-ghost use Rattle.frame.specs.Number.{numberOf};
 ghost use Rattle.frame.specs.Outcome.{Meets, over};
 ghost use Rattle.frame.specs.Padding.{padCount, pad};
 ghost use Rattle.frame.specs.DesFrame.{macStart, desMac, macHolds, desSeal, header, desSealed, desSize, desSealing, desPlain, desOpening};

@@ -6,7 +6,7 @@ use crate::fixed;
 use crate::number;
 use crate::secure;
 ghost use mathlib.Core.Path.{_≡_};
-ghost use Prim.Native.Nat.{_+_, _*_, _≤_};
+ghost use Prim.Native.Nat.{_+_, _≤_};
 ghost use lib.ListN.{length};
 ghost use Rattle.frame.specs.Outcome.{Meets, over};
 ghost use Rattle.frame.specs.Guards.{firstOf};

@@ -1,6 +1,6 @@
 -- Statement 3, proved: what two ends with the same derived keys agree on. Assumes nothing.
-use mathlib.Core.Path.{_≡_, refl, sym, ap, ap₂, _∙_}
-use mathlib.Core.List.{List, [], _++_}
+use mathlib.Core.Path.{_≡_, refl, sym, ap, _∙_}
+use mathlib.Core.List.{List}
 use mathlib.Core.Logic.{_↔_, _⊎_, inl, inr, ⊎-elim}
 use Prim.Native.Nat.{ℕ, _+_, _≤_, _<_}
 use native.Mathlib.Omega.{arith}
@@ -10,12 +10,12 @@ use Rattle.cipher.specs.Bytes.{Bytes}
 use Rattle.cipher.proofs.ByteLists.{Block, Bytes-append}
 use Rattle.cipher.proofs.Numbers.{le-or-lt}
 use Rattle.frame.specs.Inverse.{Domain, Frames}
-use Rattle.frame.specs.Outcome.{Outcome, refused, accepted, choose}
-use Rattle.frame.specs.Scheme.{sealed, sealing, opening, framed, responding, sealedSize}
+use Rattle.frame.specs.Outcome.{Outcome, accepted, choose}
+use Rattle.frame.specs.Scheme.{sealed, sealing, framed, responding, sealedSize}
 use Rattle.frame.proofs.Frames.{frames, responds, responds-not, size-some}
 use Rattle.frame.proofs.Refusals.{accepted-zero, refused-number}
 use Rattle.session.specs.Agreement.{Fits, Fixed, Inputs, made1A, read1, made2A, read2, made1B, made2B, credentials, End, reader, card, Agreement}
-use Rattle.session.specs.Challenge.{blockSize, underAlpha, underBeta, making1A, reading1A, checking1B, checking2B, sessionKeys, derivingSessionKeys}
+use Rattle.session.specs.Challenge.{blockSize, underAlpha, underBeta, checking1B, checking2B, sessionKeys, derivingSessionKeys}
 use Rattle.session.specs.Derivation.{Derived, derivation}
 use Rattle.session.proofs.Accepted.{Given, derivation-gives}
 use Rattle.session.proofs.Agreeing as two

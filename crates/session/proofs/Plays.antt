@@ -1,8 +1,8 @@
 -- What a reader and a card get that play an exchange through buffers of 16 bytes. Assumes nothing.
 use mathlib.Core.Path.{_≡_, refl, sym, ap, _∙_}
 use mathlib.Core.Bool.{Bool, true, false}
-use mathlib.Core.List.{List, [], _∷_, _++_}
-use mathlib.Core.Logic.{_⊎_, inl, inr, ⊎-elim}
+use mathlib.Core.List.{List, []}
+use mathlib.Core.Logic.{_⊎_, inl, inr}
 use Prim.Native.Nat.{ℕ, _%_, _≤_, _<_}
 use native.Mathlib.Omega.{arith}
 use borrow.Author.Tests.{eqb-true}
@@ -13,7 +13,7 @@ use Rattle.cipher.proofs.ByteLists.{Block}
 use Rattle.frame.specs.Outcome.{Outcome, accepted, choose, over}
 use Rattle.frame.specs.Inverse.{Domain, Frames}
 use Rattle.frame.specs.Scheme.{sealed, sealing, opening}
-use Rattle.frame.specs.Tests.{isnt, either}
+use Rattle.frame.specs.Tests.{either}
 use Rattle.frame.proofs.Decides.{either-false, isnt-false, is-number}
 use Rattle.frame.proofs.Frames.{frames, opens, size-short}
 use Rattle.frame.proofs.Overs.{front}

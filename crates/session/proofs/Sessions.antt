@@ -1,20 +1,20 @@
 -- The session's steps: which row decides, and what is left of the session. Assumes nothing.
 use mathlib.Core.Path.{_≡_, refl, sym, ap, _∙_}
 use mathlib.Core.Bool.{Bool, true, false}
-use mathlib.Core.List.{List, [], _∷_, _++_, append-nil}
+use mathlib.Core.List.{List, _++_, append-nil}
 use mathlib.Core.Logic.{⊎-elim}
-use Prim.Native.Nat.{ℕ, zero, suc, _+_, _-_, _*_, _/_, _%_, _≤_, _<_}
+use Prim.Native.Nat.{ℕ, zero, suc, _+_, _-_, _≤_, _<_}
 use native.Mathlib.Nat.{sub-zero}
 use native.Mathlib.Omega.{arith}
 use borrow.Author.Tests.{eq-eqb, ne-eqb, lt-ltb, le-ltb, ltb-false}
-use lib.Dec.{eqb, ltb, lit≤}
+use lib.Dec.{eqb, lit≤}
 use lib.ListN.{length, take, drop, replicate, length-append, length-replicate}
 use lib.Seq.{take-all}
 use Rattle.frame.specs.Guards.{firstOf}
-use Rattle.frame.specs.Outcome.{Outcome, Row, choose, decide, accepted, refused, over}
-use Rattle.frame.specs.Tests.{isnt, either, both}
+use Rattle.frame.specs.Outcome.{Row, choose, decide, refused, over}
+use Rattle.frame.specs.Tests.{either, both}
 use Rattle.cipher.proofs.Numbers.{le-or-lt}
-use Rattle.frame.proofs.Decides.{AllFalse, numbered, decide-false, first-refuses, first-passes, either-false, is-number}
+use Rattle.frame.proofs.Decides.{numbered, decide-false, first-refuses, first-passes, either-false, is-number}
 use Rattle.frame.proofs.Schemes.{opening-whole}
 use Rattle.session.specs.Session.{credentialsSize, credentialsOf, makeRows, filled, withNumber, withCount, stepped, Steps, more, counting, opened, acceptRows, receiving, received, Receives}
 use Rattle.session.specs.declared.context.AuthenticatedContext.{AuthenticatedContext}

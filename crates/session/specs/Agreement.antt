@@ -2,7 +2,7 @@
 -- session keys, and opening is the exact inverse of sealing, for every code and all bytes. Assumes nothing.
 use Prim.Native.Nat.{ℕ, _%_, _≤_, _<_}
 use mathlib.Core.Path.{_≡_}
-use mathlib.Core.List.{List, [], _++_}
+use mathlib.Core.List.{List, _++_}
 use mathlib.Core.Logic.{_↔_, _⊎_}
 use lib.Dec.{eqb}
 use lib.ListN.{length}

@@ -1,7 +1,6 @@
 -- Derivation of the keys of an authentication: the keys of areas and services, each in turn, encrypt a block. Assumes nothing.
-use Prim.Native.Nat.{ℕ, zero, suc, _+_, _-_, _*_, _%_}
-use mathlib.Core.Path.{_≡_}
-use mathlib.Core.Bool.{Bool, true, false}
+use Prim.Native.Nat.{ℕ, _+_, _-_, _*_, _%_}
+use mathlib.Core.Bool.{Bool}
 use mathlib.Core.List.{List, [], _∷_, _++_}
 use lib.Dec.{eqb, ltb}
 use lib.ListN.{length, take, replicate}
@@ -9,11 +8,10 @@ use Rattle.cipher.specs.Fips197.{aesEncrypt}
 use Rattle.cipher.specs.Fips46.{desEncrypt}
 use Rattle.cipher.specs.Fold.{underEach}
 use Rattle.frame.specs.Guards.{firstOf}
-use Rattle.frame.specs.Outcome.{Row, row, choose, over}
-use Rattle.frame.specs.Packed.{packed}
-use Rattle.frame.specs.Tests.{isnt, either, both}
+use Rattle.frame.specs.Outcome.{Row, row, choose}
+use Rattle.frame.specs.Tests.{isnt, either}
 use Rattle.session.specs.Entries.{Entry, entries, nodes, place, has, keyAt, unknownAlgorithm, twice}
-use Rattle.session.specs.ServiceCode.{keyFree, bearing}
+use Rattle.session.specs.ServiceCode.{bearing}
 
 -- what a derivation answers: a number, the node that lacks a key where that is 4, the scheme mark that was used, and the keys
 pub record Derived : Type 0 where

@@ -1,7 +1,7 @@
 -- Lists as a caller hands them over. Key entry, 19 bytes: node 2 (low byte first), algorithm 1 (1 DES, 2 AES), key 16; DES uses the first 8.
 -- Node, 2 bytes: low byte first. Assumes nothing.
 use Prim.Native.Nat.{ℕ, zero, suc, _/_}
-use mathlib.Core.Bool.{Bool, true, false}
+use mathlib.Core.Bool.{Bool, false}
 use mathlib.Core.List.{List, [], _∷_}
 use lib.Dec.{eqb, ltb}
 use lib.ListN.{length, take, drop, getD}

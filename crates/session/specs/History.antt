@@ -1,6 +1,5 @@
 -- What happens to a session from its making on: number steps, settings of the number, responses. Assumes nothing.
 use Prim.Native.Nat.{ℕ, zero, suc, _+_}
-use mathlib.Core.Bool.{Bool}
 use mathlib.Core.List.{List, [], _∷_}
 use lib.Dec.{ltb}
 use Rattle.frame.specs.Outcome.{choose}

@@ -1,10 +1,9 @@
 -- The session: its number, transaction ID, scheme, credentials, nodes, and how many responses were turned away. Assumes nothing.
-use Prim.Native.Nat.{ℕ, zero, suc, _+_, _-_, _*_, _/_, _%_}
+use Prim.Native.Nat.{ℕ, suc, _+_, _-_, _*_, _/_, _%_}
 use mathlib.Core.Path.{_≡_}
-use mathlib.Core.Bool.{Bool}
 use mathlib.Core.List.{List, [], _∷_, _++_}
 use lib.Dec.{eqb, ltb}
-use lib.ListN.{length, take, drop, replicate}
+use lib.ListN.{length, take, replicate}
 use Rattle.frame.specs.Guards.{firstOf}
 use Rattle.frame.specs.Outcome.{Outcome, Row, row, choose, decide, over}
 use Rattle.frame.specs.Scheme.{opening}

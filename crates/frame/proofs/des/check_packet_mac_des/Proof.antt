@@ -1,7 +1,7 @@
-use mathlib.Core.Path.{_≡_, sym}
+use mathlib.Core.Path.{sym}
 use Prim.Native.Nat.{_-_, _≤_}
 use native.Mathlib.Omega.{arith}
-use lib.ListN.{length, take, drop, length-drop}
+use lib.ListN.{length, length-drop}
 use lib.Seq.{length-take-le}
 use Rattle.frame.proofs.DesOpens.{rest-part, mac-checked}
 use borrow.Author.Needs.{needs}

@@ -2,7 +2,7 @@ use borrow.Author.Tests.{eq-eqb, ne-eqb, lt-ltb, le-ltb}
 use Rattle.frame.specs.Outcome.{choose}
 use Rattle.frame.specs.Authentication2.{auth2SealRows, auth2Size}
 use Rattle.frame.specs.Guards.{firstOf}
-use Rattle.frame.specs.Tests.{isnt, either}
+use Rattle.frame.specs.Tests.{isnt}
 use Prim.Native.Nat.{_+_, _<_, _≤_}
 use native.Mathlib.Omega.{arith}
 use Rattle.frame.specs.Padding.{padCount}

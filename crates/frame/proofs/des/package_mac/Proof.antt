@@ -1,7 +1,4 @@
-use mathlib.Core.Path.{_≡_, refl, sym, ap, _∙_}
-use Prim.Native.Nat.{ℕ, _≤_}
-use native.Mathlib.Omega.{arith}
-use lib.ListN.{length, take, drop}
+use mathlib.Core.Path.{sym}
 use lib.Seq.{length-take-le}
 use Rattle.frame.proofs.Packages.{cipher-written, last-block}
 use borrow.Author.Needs.{needs}

@@ -1,6 +1,6 @@
 use native.Mathlib.Omega.{arith}
 use Prim.Native.Nat.{_≤_, _<_}
-use borrow.Author.Tests.{eq-eqb, ne-eqb, lt-ltb, le-ltb}
+use borrow.Author.Tests.{lt-ltb, le-ltb}
 use Rattle.frame.specs.Outcome.{choose}
 use Rattle.frame.specs.Trimmed.{trimCount}
 use Rattle.frame.specs.Tests.{both}

@@ -2,7 +2,6 @@ use mathlib.Core.Path.{refl}
 use native.Mathlib.Omega.{arith}
 use Prim.Native.Nat.{_+_, _-_, _≤_}
 use lib.ListN.{length}
-use Rattle.frame.specs.Number.{numberBytes}
 use Rattle.frame.specs.AesFrame.{aesSize}
 use Rattle.frame.proofs.AesSeals.{with-part, sealed-written}
 use Rattle.frame.proofs.Pieces.{reaches}

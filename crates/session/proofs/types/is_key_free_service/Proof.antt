@@ -1,6 +1,5 @@
 use native.Mathlib.Omega.{arith}
 use Prim.Native.Nat.{_%_, _<_, _≤_}
-use mathlib.Core.Path.{sym}
 use borrow.Author.Tests.{eq-eqb, ne-eqb, lt-ltb, le-ltb}
 use Rattle.frame.specs.Tests.{both}
 use Rattle.session.specs.ServiceCode.{keyFree}
