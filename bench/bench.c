@@ -268,7 +268,7 @@ static void print_notes(void)
     printf("3. A block encrypted under each 8 bytes of %d in turn: a key schedule and a block, %d times.\n",
            DES_TEXT, DES_TEXT / DES_BLOCK);
     printf("4. nettle has no OFB, and OpenSSL no CMAC below EVP: there it is C over the peer's block function.\n");
-    printf("5. A peer's frame is C over its modes. Ours is what crate frame exports.\n");
+    printf("5. A peer's frame is C over its modes. Ours is what crate session exports.\n");
     printf("\nnettle's AES ran %s the processor's AES instructions. No other contestant uses them.\n",
            nettle_unbound() ? "WITH" : "without");
 }

@@ -56,7 +56,7 @@ enum {
     ID = 6,
     // Cipher key, MAC key and Challenge 3C.
     CREDENTIALS = 36,
-    // In front of a result of sealing or opening: a number of 64 bits, as crate frame packs its answers.
+    // In front of a result of sealing or opening: a number of 64 bits, as the C functions pack their answers.
     ANSWER = 8,
     // The answers to a frame whose MAC or ID is wrong.
     WRONG_MAC = 13,

@@ -1,6 +1,8 @@
-// The proved functions, as the archives of crates bench and frame export them. Those of bench work in place,
+// The proved functions, as the archives of crates bench and session export them. Those of bench work in place,
 // so the input is copied first.
 #include "bench.h"
+
+#include "../include/felica_secure.h"
 
 #include <string.h>
 
@@ -19,15 +21,6 @@ void hernotxak_bench_des_under_each(const uint8_t *keys, size_t keys_n, uint8_t 
 void hernotxak_bench_des_under_each_back(const uint8_t *keys, size_t keys_n, uint8_t *block, size_t block_n);
 void hernotxak_bench_tdes2_encrypt(const uint8_t *key1, size_t key1_n, const uint8_t *key2, size_t key2_n,
                                    uint8_t *block, size_t block_n);
-uint64_t felica_encrypt_command(uint8_t scheme, uint8_t code, uint16_t number, const uint8_t *id, size_t id_n,
-                                const uint8_t *credentials, size_t credentials_n, const uint8_t *payload,
-                                size_t payload_n, uint8_t *out, size_t out_n);
-uint64_t felica_decrypt_response(uint8_t scheme, uint8_t code, const uint8_t *id, size_t id_n,
-                                 const uint8_t *credentials, size_t credentials_n, const uint8_t *data,
-                                 size_t data_n, uint8_t *out, size_t out_n);
-
-// The scheme marks.
-enum { DES = 1, AES = 2 };
 
 static void aes_block(const struct input *in, uint8_t *out)
 {
@@ -128,22 +121,22 @@ static void open_frame(uint8_t scheme, const struct input *in, const uint8_t *cr
 
 static void aes_seal(const struct input *in, uint8_t *out)
 {
-    seal_frame(AES, in, in->credentials, CREDENTIALS, out);
+    seal_frame(FELICA_SCHEME_AES128, in, in->credentials, CREDENTIALS, out);
 }
 
 static void aes_open(const struct input *in, uint8_t *out)
 {
-    open_frame(AES, in, in->credentials, CREDENTIALS, out);
+    open_frame(FELICA_SCHEME_AES128, in, in->credentials, CREDENTIALS, out);
 }
 
 static void des_seal(const struct input *in, uint8_t *out)
 {
-    seal_frame(DES, in, in->key, DES_BLOCK, out);
+    seal_frame(FELICA_SCHEME_DES, in, in->key, DES_BLOCK, out);
 }
 
 static void des_open(const struct input *in, uint8_t *out)
 {
-    open_frame(DES, in, in->key, DES_BLOCK, out);
+    open_frame(FELICA_SCHEME_DES, in, in->key, DES_BLOCK, out);
 }
 
 static void start(void)
