@@ -1,8 +1,9 @@
-// Sealed data of the FeliCa protocol's secure session, for C99 and C++11: commands and responses in both schemes, response frames,
-// Authentication 2, the DES registration package. The archive is libframe.a (`rt staticlib frame`), for x86-64 Linux.
+// The FeliCa protocol's secure session, for C99 and C++11: key derivation, the challenges of an authentication, AES session keys; sealed
+// commands and responses in both schemes, response frames, Authentication 2, the DES registration package. The archive is libsession.a
+// (`rt staticlib session`), for x86-64 Linux.
 //
 // Proved, for every call whose buffers are as the caller's part below says: the call ends, and its answer and its whole output are those
-// of a definition in crates/frame/specs, which docs/STATUS.md names for each function.
+// of a definition in crates/session/specs or crates/frame/specs, which docs/STATUS.md names for each function.
 //
 // The caller's part, which no proof can see:
 // - A pointer points to as many bytes as the length behind it says: readable ones, and writable ones for the output.
@@ -26,6 +27,34 @@ extern "C" {
 
 #define FELICA_SCHEME_DES 1
 #define FELICA_SCHEME_AES128 2
+// For derivation alone: the keys choose the scheme.
+#define FELICA_SCHEME_BY_KEYS 0
+
+// A key entry: node 2 (low byte first), algorithm 1, key 16, of which DES uses the first 8.
+#define FELICA_KEY_ENTRY_SIZE 19
+#define FELICA_ALGORITHM_DES 1
+#define FELICA_ALGORITHM_AES128 2
+// An area or a service: low byte first.
+#define FELICA_NODE_SIZE 2
+// The node whose DES key is the system key.
+#define FELICA_NODE_SYSTEM 0xFFFF
+// The most entries of each list.
+#define FELICA_KEYS_MAX 128
+#define FELICA_AREAS_MAX 32
+#define FELICA_SERVICES_MAX 32
+// An individual key, where there is one.
+#define FELICA_INDIVIDUAL_KEY_SIZE 16
+
+// Derived keys: group and user key with DES, group and individual key with AES.
+#define FELICA_DES_DERIVED_KEYS_SIZE 16
+#define FELICA_AES_DERIVED_KEYS_SIZE 32
+#define FELICA_IDM_SIZE 8
+#define FELICA_CHALLENGE_3C_SIZE 4
+// A block: random 1, random 2, and challenges 1A, 1B, 2A, 2B.
+#define FELICA_DES_BLOCK_SIZE 8
+#define FELICA_AES_BLOCK_SIZE 16
+// AES session keys: cipher key 16, MAC key 16.
+#define FELICA_AES_SESSION_KEYS_SIZE 32
 
 // A transaction ID.
 #define FELICA_ID_SIZE 6
@@ -47,7 +76,7 @@ extern "C" {
 #define FELICA_PACKAGE_MAX 4096
 
 // ---- numbers (docs/NUMBERS.md). The first condition that holds, in the order that stands at each function, decides.
-// 1 to 9 and 15 come with the session: no function here gives them.
+// 9 and 15 come with a session for C: no function here gives them.
 
 #define FELICA_OK 0
 // Over 128 keys, 32 areas, 32 services or 64 session nodes.
@@ -74,7 +103,7 @@ extern "C" {
 #define FELICA_TOO_SHORT 11
 // Over one of the limits above.
 #define FELICA_TOO_LONG 12
-// The MAC differs.
+// The MAC, or the 1B or 2B that is checked, differs.
 #define FELICA_MAC_DIFFERS 13
 // The DES transaction ID differs.
 #define FELICA_ID_DIFFERS 14
@@ -88,13 +117,13 @@ extern "C" {
 // ---- the answer: one number of 64 bits. Bits 48 to 63 are 0.
 
 // Bits 0 to 7: FELICA_OK, or why the call was turned down. A call that was turned down has written nothing, and every other bit of its
-// answer is 0.
+// answer is 0, but for the node with FELICA_KEY_MISSING.
 static inline uint8_t felica_answer_number(uint64_t answer)
 {
     return (uint8_t)(answer & 0xFF);
 }
 
-// Bits 8 to 15: a scheme mark. The functions here leave it 0.
+// Bits 8 to 15: the scheme mark that an accepted derivation used, 1 or 2; else 0.
 static inline uint8_t felica_answer_scheme(uint64_t answer)
 {
     return (uint8_t)((answer >> 8) & 0xFF);
@@ -112,7 +141,106 @@ static inline uint16_t felica_answer_transaction_number(uint64_t answer)
     return (uint16_t)((answer >> 32) & 0xFFFF);
 }
 
-// ---- both schemes. Credentials: FELICA_DES_KEY_SIZE or FELICA_AES_CREDENTIALS_SIZE bytes, as the scheme mark says.
+// The same bits with FELICA_KEY_MISSING, which derivation alone gives: the node that has no key.
+static inline uint16_t felica_answer_node(uint64_t answer)
+{
+    return (uint16_t)((answer >> 32) & 0xFFFF);
+}
+
+// ---- derivation
+
+// Derives the keys of an authentication from key entries and the areas and services that it is about. The mark forces DES or AES;
+// FELICA_SCHEME_BY_KEYS goes by the keys of a target, AES before DES: the last service that is not key-free, else the last service, else
+// the last area. A service is key-free if its low six bits are odd and lie in 9 to 23. An individual key of 0 bytes is none; with AES
+// it counts as sixteen zeros.
+// DES: the system key is encrypted under each area key (group key), then under the key of each service that is not key-free (user key).
+// Writes group and user key, 16 bytes. AES: 01 01, thirteen 00, 80 is encrypted under each area key and service key (group key). Writes
+// group and individual key, 32 bytes. The answer has the scheme that was used.
+// Refusals: 17 (mark; a list that is no whole number of entries; an algorithm other than 1 and 2 in any entry; an individual key of
+// other than 0 and 16 bytes), 1, 2; with FELICA_SCHEME_BY_KEYS 3, 4 (the target has no key); then
+// DES: 6, 7, 8, and 4 or 5 for the system, the areas, the services that are not key-free, in order; 16.
+// AES: 4 or 5 for the areas, the services, in order; 3; 16.
+// With 4 the answer has the node.
+uint64_t felica_derive_auth_keys(uint8_t mark,
+                                 const uint8_t *keys, size_t keys_len,
+                                 const uint8_t *areas, size_t areas_len,
+                                 const uint8_t *services, size_t services_len,
+                                 const uint8_t *individual, size_t individual_len,
+                                 uint8_t *out, size_t out_len);
+
+// ---- challenges, both schemes. Keys: what derivation wrote, FELICA_DES_DERIVED_KEYS_SIZE or FELICA_AES_DERIVED_KEYS_SIZE bytes as the
+// scheme mark says. IDm: FELICA_IDM_SIZE bytes. A random and a challenge are one block: 8 bytes with DES, 16 with AES. Challenge 3C:
+// FELICA_CHALLENGE_3C_SIZE bytes under both marks; DES does not use it.
+// Making and reading write one block. Refusals: 17 (mark, any of these lengths), 16.
+// Checking writes nothing. Refusals: 17 (mark, any of these lengths), 13 (the challenge is not the one that making gives).
+
+// Makes 1A: the reader, from its random 1.
+uint64_t felica_encrypt_challenge1a(uint8_t scheme,
+                                    const uint8_t *keys, size_t keys_len,
+                                    const uint8_t *idm, size_t idm_len,
+                                    const uint8_t *random_1, size_t random_1_len,
+                                    uint8_t *out, size_t out_len);
+
+// Reads 1A: the card. Writes random 1.
+uint64_t felica_decrypt_challenge1a(uint8_t scheme,
+                                    const uint8_t *keys, size_t keys_len,
+                                    const uint8_t *idm, size_t idm_len,
+                                    const uint8_t *challenge_1a, size_t challenge_1a_len,
+                                    uint8_t *out, size_t out_len);
+
+// Makes 1B: the card, from the random 1 that it read.
+uint64_t felica_encrypt_challenge1b(uint8_t scheme,
+                                    const uint8_t *keys, size_t keys_len,
+                                    const uint8_t *idm, size_t idm_len,
+                                    const uint8_t *challenge_3c, size_t challenge_3c_len,
+                                    const uint8_t *random_1, size_t random_1_len,
+                                    uint8_t *out, size_t out_len);
+
+// Checks 1B: the reader, against its random 1.
+uint64_t felica_verify_challenge1b(uint8_t scheme,
+                                   const uint8_t *keys, size_t keys_len,
+                                   const uint8_t *idm, size_t idm_len,
+                                   const uint8_t *challenge_3c, size_t challenge_3c_len,
+                                   const uint8_t *random_1, size_t random_1_len,
+                                   const uint8_t *challenge_1b, size_t challenge_1b_len);
+
+// Makes 2A: the card, from its random 2.
+uint64_t felica_encrypt_challenge2a(uint8_t scheme,
+                                    const uint8_t *keys, size_t keys_len,
+                                    const uint8_t *idm, size_t idm_len,
+                                    const uint8_t *challenge_3c, size_t challenge_3c_len,
+                                    const uint8_t *random_2, size_t random_2_len,
+                                    uint8_t *out, size_t out_len);
+
+// Reads 2A: the reader. Writes random 2.
+uint64_t felica_decrypt_challenge2a(uint8_t scheme,
+                                    const uint8_t *keys, size_t keys_len,
+                                    const uint8_t *idm, size_t idm_len,
+                                    const uint8_t *challenge_3c, size_t challenge_3c_len,
+                                    const uint8_t *challenge_2a, size_t challenge_2a_len,
+                                    uint8_t *out, size_t out_len);
+
+// Makes 2B: the reader, from the random 2 that it read.
+uint64_t felica_encrypt_challenge2b(uint8_t scheme,
+                                    const uint8_t *keys, size_t keys_len,
+                                    const uint8_t *idm, size_t idm_len,
+                                    const uint8_t *random_2, size_t random_2_len,
+                                    uint8_t *out, size_t out_len);
+
+// Checks 2B: the card, against its random 2.
+uint64_t felica_verify_challenge2b(uint8_t scheme,
+                                   const uint8_t *keys, size_t keys_len,
+                                   const uint8_t *idm, size_t idm_len,
+                                   const uint8_t *random_2, size_t random_2_len,
+                                   const uint8_t *challenge_2b, size_t challenge_2b_len);
+
+// Derives the AES session keys from random 2, FELICA_AES_BLOCK_SIZE bytes. Writes cipher key and MAC key, 32 bytes: with Challenge 3C
+// behind them they are the credentials below.
+// Refusals: 17 (random 2), 16.
+uint64_t felica_derive_secure_session_keys(const uint8_t *random_2, size_t random_2_len,
+                                           uint8_t *out, size_t out_len);
+
+// ---- sealed data, both schemes. Credentials: FELICA_DES_KEY_SIZE or FELICA_AES_CREDENTIALS_SIZE bytes, as the scheme mark says.
 
 // Seals a command with its code and transaction number. Writes the sealed data, without length byte and code: for a payload of n bytes,
 // n + 10 with AES; with DES n + 8, padded to whole blocks of 8 bytes, and 8.

@@ -1,5 +1,6 @@
 #include "parts.h"
 
+#include "blocks.h"
 #include "call.h"
 #include "check.h"
 
@@ -13,16 +14,21 @@ int all_parts(int files, char **paths)
     watch_faults();
     orders();
     fixed();
+    blocks();
+    derivations();
+    challenges();
     for (i = 0; i < files; i++) {
         stored(paths[i]);
     }
     cases = stored_all_seen();
+    huge();
     forecasts();
     trims();
     trips();
+    agreements();
     damages();
     lengths();
-    huge();
+    crossings();
     printf("%lu calls, %lu stored answers\n", calls(), cases);
     return 0;
 }

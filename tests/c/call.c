@@ -20,6 +20,16 @@ static const char *const names[OPERATIONS] = {
     "felica_decrypt_authentication2_payload_des",
     "felica_decrypt_authentication2_payload_v2_aes128",
     "felica_generate_registration_package_des",
+    "felica_derive_auth_keys",
+    "felica_encrypt_challenge1a",
+    "felica_decrypt_challenge1a",
+    "felica_encrypt_challenge1b",
+    "felica_verify_challenge1b",
+    "felica_encrypt_challenge2a",
+    "felica_decrypt_challenge2a",
+    "felica_encrypt_challenge2b",
+    "felica_verify_challenge2b",
+    "felica_derive_secure_session_keys",
 };
 
 static const char *const places[PLACES] = {"in the middle", "at the start", "at the end", "NULL if empty"};
@@ -35,7 +45,26 @@ static const unsigned long numbers[OPERATIONS] = {
     N(0) | N(17) | N(10) | N(12) | N(13) | N(16),
     N(0) | N(17) | N(11) | N(12) | N(13) | N(16),
     N(0) | N(17) | N(10) | N(12) | N(16),
+    N(0) | N(17) | N(1) | N(2) | N(3) | N(4) | N(5) | N(6) | N(7) | N(8) | N(16),
+    N(0) | N(17) | N(16),
+    N(0) | N(17) | N(16),
+    N(0) | N(17) | N(16),
+    N(0) | N(17) | N(13),
+    N(0) | N(17) | N(16),
+    N(0) | N(17) | N(16),
+    N(0) | N(17) | N(16),
+    N(0) | N(17) | N(13),
+    N(0) | N(17) | N(16),
 };
+
+// The inputs of a call.
+#define INPUTS 8
+static struct text input_of(const struct call *c, int which)
+{
+    const struct text all[INPUTS] = {c->id, c->credentials, c->data, c->challenge_3c, c->checked, c->areas, c->services, c->individual};
+
+    return all[which];
+}
 
 static unsigned long count;
 // The last call; its bytes may be gone.
@@ -53,16 +82,41 @@ unsigned long calls(void)
 void describe_call(char *to, size_t n)
 {
     snprintf(to, n,
-             "call %lu: %s scheme %u code %u number %u ID %zu credentials %zu data %zu (starts %02x) output %zu, buffers %s: %016llx",
+             "call %lu: %s scheme %u code %u number %u ID %zu credentials %zu data %zu (starts %02x) 3C %zu checked %zu areas %zu services %zu "
+             "individual %zu output %zu, buffers %s: %016llx",
              count, names[last.operation], last.scheme, last.code, last.number, last.id.n, last.credentials.n, last.data.n, last_first,
-             last_room, places[last_place], (unsigned long long)last_answer);
+             last.challenge_3c.n, last.checked.n, last.areas.n, last.services.n, last.individual.n, last_room, places[last_place],
+             (unsigned long long)last_answer);
 }
 
-static uint64_t invoke(const struct call *c, const uint8_t *id, const uint8_t *credentials, const uint8_t *data, uint8_t *out, size_t room)
+// The inputs as they stand for this call, in the order of input_of.
+static uint64_t invoke(const struct call *c, uint8_t *const *in, uint8_t *out, size_t room)
 {
-    size_t id_n = c->id.n, key_n = c->credentials.n, n = c->data.n;
+    const uint8_t *id = in[0], *credentials = in[1], *data = in[2], *third = in[3], *checked = in[4];
+    size_t id_n = c->id.n, key_n = c->credentials.n, n = c->data.n, third_n = c->challenge_3c.n;
 
     switch (c->operation) {
+    case DERIVE:
+        return felica_derive_auth_keys(c->scheme, credentials, key_n, in[5], c->areas.n, in[6], c->services.n, in[7], c->individual.n, out,
+                                       room);
+    case MAKE_1A:
+        return felica_encrypt_challenge1a(c->scheme, credentials, key_n, id, id_n, data, n, out, room);
+    case READ_1A:
+        return felica_decrypt_challenge1a(c->scheme, credentials, key_n, id, id_n, data, n, out, room);
+    case MAKE_1B:
+        return felica_encrypt_challenge1b(c->scheme, credentials, key_n, id, id_n, third, third_n, data, n, out, room);
+    case CHECK_1B:
+        return felica_verify_challenge1b(c->scheme, credentials, key_n, id, id_n, third, third_n, data, n, checked, c->checked.n);
+    case MAKE_2A:
+        return felica_encrypt_challenge2a(c->scheme, credentials, key_n, id, id_n, third, third_n, data, n, out, room);
+    case READ_2A:
+        return felica_decrypt_challenge2a(c->scheme, credentials, key_n, id, id_n, third, third_n, data, n, out, room);
+    case MAKE_2B:
+        return felica_encrypt_challenge2b(c->scheme, credentials, key_n, id, id_n, data, n, out, room);
+    case CHECK_2B:
+        return felica_verify_challenge2b(c->scheme, credentials, key_n, id, id_n, data, n, checked, c->checked.n);
+    case SESSION_KEYS:
+        return felica_derive_secure_session_keys(data, n, out, room);
     case SEAL:
         return felica_encrypt_command(c->scheme, c->code, c->number, id, id_n, credentials, key_n, data, n, out, room);
     case FRAME:
@@ -100,17 +154,19 @@ static int unchanged(const uint8_t *at, struct text t)
 // Calls, and sees to what holds of every call. The output is left at *written.
 static uint64_t run(const struct call *c, size_t room, enum place where, const uint8_t **written)
 {
-    static struct fence ids, keys, inputs, outputs;
-    const uint8_t *id, *credentials, *data;
+    static struct fence inputs[INPUTS], outputs;
+    uint8_t *in[INPUTS];
     const uint8_t *before;
     uint8_t *out, *low, *high;
     uint64_t answer;
+    unsigned number;
     size_t kept;
+    int i;
 
+    for (i = 0; outputs.start == NULL && i < INPUTS; i++) {
+        inputs[i] = fence_of(DATA_MAX);
+    }
     if (outputs.start == NULL) {
-        ids = fence_of(DATA_MAX);
-        keys = fence_of(DATA_MAX);
-        inputs = fence_of(DATA_MAX);
         outputs = fence_of(ROOM_MAX);
     }
     last = *c;
@@ -119,9 +175,9 @@ static uint64_t run(const struct call *c, size_t room, enum place where, const u
     last_place = where;
     last_answer = 0;
 
-    id = put(&ids, c->id, where);
-    credentials = put(&keys, c->credentials, where);
-    data = put(&inputs, c->data, where);
+    for (i = 0; i < INPUTS; i++) {
+        in[i] = put(&inputs[i], input_of(c, i), where);
+    }
 
     // the output and what is around it get bytes that differ from call to call
     out = place_in(&outputs, room, where);
@@ -134,14 +190,17 @@ static uint64_t run(const struct call *c, size_t room, enum place where, const u
     memcpy(low, before, (size_t)(high - low));
 
     count++;
-    answer = invoke(c, id, credentials, data, out, room);
+    answer = invoke(c, in, out, room);
     last_answer = answer;
+    number = felica_answer_number(answer);
 
-    check(unchanged(id, c->id) && unchanged(credentials, c->credentials) && unchanged(data, c->data), "an input changed");
-    check(felica_answer_number(answer) <= 17 && (numbers[c->operation] >> felica_answer_number(answer) & 1) != 0,
-          "a number that is not the function's");
-    check((answer >> 48) == 0 && felica_answer_scheme(answer) == 0, "a bit of the answer that has to be 0");
-    check(felica_answer_number(answer) == 0 || answer == felica_answer_number(answer), "a refusal with a length or a transaction number");
+    for (i = 0; i < INPUTS; i++) {
+        check(unchanged(in[i], input_of(c, i)), "an input changed");
+    }
+    check(number <= 17 && (numbers[c->operation] >> number & 1) != 0, "a number that is not the function's");
+    check((answer >> 48) == 0 && (felica_answer_scheme(answer) == 0 || c->operation == DERIVE), "a bit of the answer that has to be 0");
+    check(number == 0 || answer == number || (number == FELICA_KEY_MISSING && answer == missing(felica_answer_node(answer))),
+          "a refusal with a length, a scheme or a transaction number");
     check(felica_answer_length(answer) <= room, "a length above the output's");
     if (out != NULL) {
         kept = (size_t)(out - low);
@@ -153,34 +212,48 @@ static uint64_t run(const struct call *c, size_t room, enum place where, const u
     return answer;
 }
 
-void refuses_in(const struct call *c, size_t room, unsigned number)
+uint64_t missing(unsigned node)
+{
+    return FELICA_KEY_MISSING | (uint64_t)node << 32;
+}
+
+void answers(const struct call *c, size_t room, unsigned place, uint64_t answer, const uint8_t *wanted)
+{
+    const uint8_t *out;
+    size_t n = felica_answer_length(answer);
+
+    check(run(c, room, (enum place)(place % PLACES), &out) == answer, "not the answer that it has to be");
+    check(n == 0 || memcmp(out, wanted, n) == 0, "not the bytes that it has to be");
+}
+
+void refuses_in(const struct call *c, size_t room, uint64_t refusal)
 {
     const uint8_t *out;
     int where;
 
     for (where = 0; where < PLACES; where++) {
-        check(run(c, room, (enum place)where, &out) == number, "not the refusal that it has to be");
+        check(run(c, room, (enum place)where, &out) == refusal, "not the refusal that it has to be");
     }
 }
 
-void refuses(const struct call *c, unsigned number)
+void refuses(const struct call *c, uint64_t refusal)
 {
     static const size_t rooms[] = {0, 1, 2, 8, 16, 255, 300, 5000};
     size_t i;
 
     for (i = 0; i < sizeof rooms / sizeof rooms[0]; i++) {
-        refuses_in(c, rooms[i], number);
+        refuses_in(c, rooms[i], refusal);
     }
 }
 
-void gives(const struct call *c, unsigned transaction, size_t n, const uint8_t *wanted, uint8_t *got)
+static void accepts(const struct call *c, uint64_t values, size_t n, const uint8_t *wanted, uint8_t *got)
 {
     // the last two would be 0 and 1 if they were cut to 16 bits
     const size_t enough[] = {n, n + 1, n + 2, n + 9, n + 300, 65536, 65537};
     const size_t less[] = {0, 1, 2, 3, n / 2, n - 1};
     static uint8_t first[DATA_MAX];
     const uint8_t *out;
-    uint64_t answer = (uint64_t)n << 16 | (uint64_t)transaction << 32;
+    uint64_t answer = (uint64_t)n << 16 | values;
     size_t i;
     int where;
 
@@ -202,4 +275,14 @@ void gives(const struct call *c, unsigned transaction, size_t n, const uint8_t *
     if (n != 0 && got != NULL) {
         memcpy(got, wanted, n);
     }
+}
+
+void gives(const struct call *c, unsigned transaction, size_t n, const uint8_t *wanted, uint8_t *got)
+{
+    accepts(c, (uint64_t)transaction << 32, n, wanted, got);
+}
+
+void derives(const struct call *c, unsigned scheme, size_t n, const uint8_t *wanted, uint8_t *got)
+{
+    accepts(c, (uint64_t)scheme << 8, n, wanted, got);
 }

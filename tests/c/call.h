@@ -1,13 +1,33 @@
 // One call of the library, with what has to hold whatever it is about:
 // - no byte outside the output changes, no input changes;
-// - a refusal is one of the function's own, changes no byte of the output, and every other bit of its answer is 0;
-// - an acceptance changes no byte of the output behind its length, and bits 8 to 15 and 48 to 63 of its answer are 0.
+// - a refusal is one of the function's own, changes no byte of the output, and every other bit of its answer is 0, but for the node with 4;
+// - an acceptance changes no byte of the output behind its length; bits 48 to 63 of its answer are 0, and bits 8 to 15 but for derivation.
 #ifndef CALL_H
 #define CALL_H
 
 #include "sample.h"
 
-enum operation { SEAL, FRAME, OPEN, TRIMMED, AUTH2_SEAL, AUTH2_OPEN_DES, AUTH2_OPEN_AES, PACKAGE, OPERATIONS };
+enum operation {
+    SEAL,
+    FRAME,
+    OPEN,
+    TRIMMED,
+    AUTH2_SEAL,
+    AUTH2_OPEN_DES,
+    AUTH2_OPEN_AES,
+    PACKAGE,
+    DERIVE,
+    MAKE_1A,
+    READ_1A,
+    MAKE_1B,
+    CHECK_1B,
+    MAKE_2A,
+    READ_2A,
+    MAKE_2B,
+    CHECK_2B,
+    SESSION_KEYS,
+    OPERATIONS
+};
 
 // What an operation does not take is left out of the call: scheme, code and number of some, the ID of others.
 struct call {
@@ -15,24 +35,44 @@ struct call {
     uint8_t scheme;
     uint8_t code;
     uint16_t number;
+    // a transaction ID; of a challenge the IDm
     struct text id;
+    // of a challenge the derived keys, of a derivation the key entries
     struct text credentials;
+    // of a challenge the random block, or the challenge that is read
     struct text data;
+    // of a challenge alone: Challenge 3C, and the challenge that is checked
+    struct text challenge_3c;
+    struct text checked;
+    // of a derivation alone
+    struct text areas;
+    struct text services;
+    struct text individual;
 };
 
 // The limits of what can be passed.
 #define DATA_MAX 70000
 #define ROOM_MAX 140000
 
-// The call is turned down with this number in an output of this room, wherever the buffers stand.
-void refuses_in(const struct call *c, size_t room, unsigned number);
+// The call is turned down with this answer in an output of this room, wherever the buffers stand. The answer is a number, with 4 also
+// the node (missing).
+void refuses_in(const struct call *c, size_t room, uint64_t refusal);
 
 // The same in an output of any room: of none, of one that is large enough for any answer, and some between.
-void refuses(const struct call *c, unsigned number);
+void refuses(const struct call *c, uint64_t refusal);
+
+// The refusal 4 of a node.
+uint64_t missing(unsigned node);
 
 // The call is accepted with this transaction number and n bytes, in an output of n bytes and in larger ones, and turned down with 16 in
 // smaller ones. The bytes are `wanted`; where that is NULL any, but the same each time. They are copied to `got` if that is not NULL.
 void gives(const struct call *c, unsigned transaction, size_t n, const uint8_t *wanted, uint8_t *got);
+
+// The same for a derivation, which is accepted with a scheme.
+void derives(const struct call *c, unsigned scheme, size_t n, const uint8_t *wanted, uint8_t *got);
+
+// One call with the buffers at one place, for what is tried too often for more: an answer, and its bytes if it has a length.
+void answers(const struct call *c, size_t room, unsigned place, uint64_t answer, const uint8_t *wanted);
 
 // How many calls there were.
 unsigned long calls(void);

@@ -16,7 +16,7 @@ void part(const char *name)
 
 static void fail(const char *what)
 {
-    static char line[400];
+    static char line[600];
     int n = snprintf(line, sizeof line, "%s: %s; last was ", current, what);
 
     describe_call(line + n, sizeof line - (size_t)n);

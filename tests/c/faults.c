@@ -51,7 +51,45 @@
     F(AUTH2_CODE, "Authentication 2, AES: under code 0x13") \
     F(PACKAGE_EMPTY, "package: accepts an empty one") \
     F(PACKAGE_LIMIT, "package: 4,096 bytes are too many") \
-    F(PACKAGE_MAC, "package: the last block is the one before it")
+    F(PACKAGE_MAC, "package: the last block is the one before it") \
+    F(KEYS_CUT, "derivation: takes a key list with a part of an entry") \
+    F(LAST_ALGORITHM, "derivation: does not look at the last entry's algorithm") \
+    F(INDIVIDUAL_8, "derivation: takes an individual key of 8 bytes as none") \
+    F(INDIVIDUAL_ZEROS, "derivation: takes sixteen zeros as no individual key") \
+    F(DERIVE_MARK_3, "derivation: takes mark 3 as chosen by keys") \
+    F(KEYS_128, "derivation: 128 keys are too many") \
+    F(SERVICES_32, "derivation: 32 services are too many") \
+    F(TWICE_FIRST, "derivation: 2 before 1") \
+    F(TWICE_NOT, "derivation: the last key of a node wins") \
+    F(EMPTY_DES, "derivation: 3 in the place of 7") \
+    F(NO_NODE, "derivation: 4 without the node") \
+    F(NODE_SWAPPED, "derivation: 4 with the node's bytes exchanged") \
+    F(NODE_WITH_5, "derivation: 5 with a node") \
+    F(NO_SCHEME, "derivation: an acceptance without the scheme") \
+    F(FALLS_BACK, "derivation, chosen by keys: DES where AES lacks a key") \
+    F(DES_PREFERRED, "derivation, chosen by keys: DES before AES") \
+    F(SERVICES_FIRST, "derivation: services before areas") \
+    F(SYSTEM_LAST, "derivation, DES: the system's 4 after those of areas and services") \
+    F(DERIVE_ROOM_FIRST, "derivation: 16 before 4") \
+    F(DERIVE_LEAKS, "derivation: 16 with a byte written") \
+    F(DERIVE_READS, "derivation: reads the byte behind the services") \
+    F(GROUP_LAST, "derivation: the two keys exchanged") \
+    F(BETA_1A, "1A: both ends under beta") \
+    F(THIRD_SHORT, "1B, AES: both ends without the last byte of Challenge 3C") \
+    F(THIRD_NONE, "2A, DES: takes a Challenge 3C of 0 bytes") \
+    F(CHECK_7, "1B: 7 bytes are compared") \
+    F(CHECK_NOT, "2B: 0 in the place of 13") \
+    F(CHECK_LENGTH, "2B: takes a challenge that is too long") \
+    F(IDM_9, "1A: takes an IDm of 9 bytes") \
+    F(MARK_0, "2B: takes mark 0 as DES") \
+    F(BLOCK_FIRST, "2A: 16 with a byte written") \
+    F(BLOCK_BEHIND, "reading 2A, DES: writes the ninth byte") \
+    F(RANDOM_PAST, "2B: reads the byte behind random 2") \
+    F(KEYS_CHANGED, "reading 1A: changes the derived keys") \
+    F(ROOM_BEFORE_MARK, "1B: 16 before 17") \
+    F(SESSION_SWAPPED, "AES session keys: MAC key before cipher key") \
+    F(SESSION_17, "AES session keys: takes a random 2 of 17 bytes") \
+    F(SESSION_16, "AES session keys: content with an output of 16 bytes")
 
 #define NAME(name, what) name,
 #define WHAT(name, what) what,
@@ -298,6 +336,295 @@ uint64_t __wrap_felica_generate_registration_package_des(KEYED)
     }
     if (fault == PACKAGE_MAC && answer % 256 == 0) {
         memcpy(out + n, out + n - 8, 8);
+    }
+    return answer;
+}
+
+// ---- derivation
+
+#define DERIVING \
+    uint8_t mark, const uint8_t *keys, size_t keys_n, const uint8_t *areas, size_t areas_n, const uint8_t *services, size_t services_n, \
+        const uint8_t *individual, size_t individual_n, uint8_t *out, size_t room
+
+uint64_t __real_felica_derive_auth_keys(DERIVING);
+uint64_t __wrap_felica_derive_auth_keys(DERIVING);
+
+// The inputs as the fault has them.
+static uint64_t derive_from(DERIVING)
+{
+    volatile uint8_t read = 0;
+
+    if (fault == KEYS_CUT) {
+        keys_n -= keys_n % 19;
+    }
+    if (fault == LAST_ALGORITHM && keys_n >= 19 && keys_n % 19 == 0 && (keys[keys_n - 17] < 1 || keys[keys_n - 17] > 2)) {
+        keys_n -= 19;
+    }
+    if (fault == INDIVIDUAL_8 && individual_n == 8) {
+        individual_n = 0;
+    }
+    if (fault == INDIVIDUAL_ZEROS && individual_n == 16 && memcmp(individual, "\0\0\0\0\0\0\0\0\0\0\0\0\0\0\0", 16) == 0) {
+        individual_n = 0;
+    }
+    if (fault == DERIVE_MARK_3 && mark == 3) {
+        mark = 0;
+    }
+    if (fault == DERIVE_READS) {
+        read = services[services_n];
+    }
+    (void)read;
+    if (fault == SERVICES_FIRST) {
+        return __real_felica_derive_auth_keys(mark, keys, keys_n, services, services_n, areas, areas_n, individual, individual_n, out, room);
+    }
+    return __real_felica_derive_auth_keys(mark, keys, keys_n, areas, areas_n, services, services_n, individual, individual_n, out, room);
+}
+
+// Where the system's key is lacking: the answer with one.
+static uint64_t with_system(DERIVING)
+{
+    static uint8_t more[129 * 19];
+    uint64_t answer;
+
+    memcpy(more, keys, keys_n);
+    memset(more + keys_n, 0xFF, 19);
+    more[keys_n + 2] = 1;
+    answer = derive_from(mark, more, keys_n + 19, areas, areas_n, services, services_n, individual, individual_n, NULL, 0);
+    (void)out;
+    (void)room;
+    return answer == 16 ? (uint64_t)0xFFFF << 32 | 4 : answer;
+}
+
+static int twice(const uint8_t *keys, size_t n)
+{
+    size_t i, k;
+
+    for (i = 0; i + 19 <= n; i += 19) {
+        for (k = 0; k < i; k += 19) {
+            if (memcmp(keys + i, keys + k, 3) == 0) {
+                return 1;
+            }
+        }
+    }
+    return 0;
+}
+
+uint64_t __wrap_felica_derive_auth_keys(DERIVING)
+{
+    uint64_t answer = derive_from(mark, keys, keys_n, areas, areas_n, services, services_n, individual, individual_n, out, room), node, des;
+    uint8_t half[16], whole[32];
+
+    node = answer >> 32;
+    switch (fault) {
+    case KEYS_128:
+        return keys_n == 128 * 19 && answer == 16 ? 1 : answer;
+    case SERVICES_32:
+        return services_n == 64 && answer == 16 ? 1 : answer;
+    case TWICE_FIRST:
+        return answer == 1 && twice(keys, keys_n) ? 2 : answer;
+    case TWICE_NOT:
+        return answer != 2 ? answer : derive_from(mark, keys, keys_n - 19, areas, areas_n, services, services_n, individual, individual_n, out, room);
+    case EMPTY_DES:
+        return answer == 7 && services_n == 0 ? 3 : answer;
+    case NO_NODE:
+        return answer % 256 == 4 ? 4 : answer;
+    case NODE_SWAPPED:
+        return answer % 256 == 4 ? 4 | (node % 256 * 256 + node / 256) << 32 : answer;
+    case NODE_WITH_5:
+        return answer == 5 ? 5 | (uint64_t)1 << 32 : answer;
+    case NO_SCHEME:
+        return answer & ~(uint64_t)0xFF00;
+    case FALLS_BACK:
+    case DES_PREFERRED:
+        if (mark == 0 && (answer == 5 || (fault == DES_PREFERRED && answer % 256 == 0))) {
+            des = derive_from(1, keys, keys_n, areas, areas_n, services, services_n, individual, individual_n, whole, 32);
+            if (des % 256 == 0 && room >= 32) {
+                memcpy(out, whole, 16);
+                return des;
+            }
+        }
+        return answer;
+    case SYSTEM_LAST:
+        if (mark == 1 && answer == ((uint64_t)0xFFFF << 32 | 4)) {
+            return with_system(mark, keys, keys_n, areas, areas_n, services, services_n, individual, individual_n, out, room);
+        }
+        return answer;
+    case DERIVE_ROOM_FIRST:
+        return answer % 256 == 4 && room < 16 ? 16 : answer;
+    case DERIVE_LEAKS:
+        if (answer == 16 && room != 0) {
+            out[0] ^= 1;
+        }
+        return answer;
+    case GROUP_LAST:
+        if (felica_answer_length(answer) == 32) {
+            memcpy(half, out, 16);
+            memmove(out, out + 16, 16);
+            memcpy(out + 16, half, 16);
+        }
+        return answer;
+    default:
+        return answer;
+    }
+}
+
+// ---- challenges
+
+#define BLOCK_IN uint8_t scheme, const uint8_t *keys, size_t keys_n, const uint8_t *idm, size_t idm_n
+#define THIRD const uint8_t *third, size_t third_n
+#define RANDOM const uint8_t *random, size_t n
+#define BLOCK_OUT uint8_t *out, size_t room
+#define CHECKED const uint8_t *checked, size_t checked_n
+
+uint64_t __real_felica_encrypt_challenge1a(BLOCK_IN, RANDOM, BLOCK_OUT);
+uint64_t __wrap_felica_encrypt_challenge1a(BLOCK_IN, RANDOM, BLOCK_OUT);
+uint64_t __real_felica_decrypt_challenge1a(BLOCK_IN, RANDOM, BLOCK_OUT);
+uint64_t __wrap_felica_decrypt_challenge1a(BLOCK_IN, RANDOM, BLOCK_OUT);
+uint64_t __real_felica_encrypt_challenge1b(BLOCK_IN, THIRD, RANDOM, BLOCK_OUT);
+uint64_t __wrap_felica_encrypt_challenge1b(BLOCK_IN, THIRD, RANDOM, BLOCK_OUT);
+uint64_t __real_felica_verify_challenge1b(BLOCK_IN, THIRD, RANDOM, CHECKED);
+uint64_t __wrap_felica_verify_challenge1b(BLOCK_IN, THIRD, RANDOM, CHECKED);
+uint64_t __real_felica_encrypt_challenge2a(BLOCK_IN, THIRD, RANDOM, BLOCK_OUT);
+uint64_t __wrap_felica_encrypt_challenge2a(BLOCK_IN, THIRD, RANDOM, BLOCK_OUT);
+uint64_t __real_felica_decrypt_challenge2a(BLOCK_IN, THIRD, RANDOM, BLOCK_OUT);
+uint64_t __wrap_felica_decrypt_challenge2a(BLOCK_IN, THIRD, RANDOM, BLOCK_OUT);
+uint64_t __real_felica_encrypt_challenge2b(BLOCK_IN, RANDOM, BLOCK_OUT);
+uint64_t __wrap_felica_encrypt_challenge2b(BLOCK_IN, RANDOM, BLOCK_OUT);
+uint64_t __real_felica_verify_challenge2b(BLOCK_IN, RANDOM, CHECKED);
+uint64_t __wrap_felica_verify_challenge2b(BLOCK_IN, RANDOM, CHECKED);
+uint64_t __real_felica_derive_secure_session_keys(RANDOM, BLOCK_OUT);
+uint64_t __wrap_felica_derive_secure_session_keys(RANDOM, BLOCK_OUT);
+
+uint64_t __wrap_felica_encrypt_challenge1a(BLOCK_IN, RANDOM, BLOCK_OUT)
+{
+    if (fault == IDM_9 && idm_n == 9) {
+        idm_n = 8;
+    }
+    if (fault == BETA_1A) {
+        return __real_felica_encrypt_challenge1b(scheme, keys, keys_n, idm, idm_n, (const uint8_t *)"\0\0\0", 4, random, n, out, room);
+    }
+    return __real_felica_encrypt_challenge1a(scheme, keys, keys_n, idm, idm_n, random, n, out, room);
+}
+
+uint64_t __wrap_felica_decrypt_challenge1a(BLOCK_IN, RANDOM, BLOCK_OUT)
+{
+    uint64_t answer;
+
+    if (fault == BETA_1A) {
+        return __real_felica_decrypt_challenge2a(scheme, keys, keys_n, idm, idm_n, (const uint8_t *)"\0\0\0", 4, random, n, out, room);
+    }
+    answer = __real_felica_decrypt_challenge1a(scheme, keys, keys_n, idm, idm_n, random, n, out, room);
+    if (fault == KEYS_CHANGED && answer % 256 == 0) {
+        *(uint8_t *)(uintptr_t)keys ^= 1;
+    }
+    return answer;
+}
+
+// Challenge 3C without its last byte, at to.
+static void cut_third(const uint8_t *third, uint8_t *to)
+{
+    memcpy(to, third, 3);
+    to[3] = 0;
+}
+
+uint64_t __wrap_felica_encrypt_challenge1b(BLOCK_IN, THIRD, RANDOM, BLOCK_OUT)
+{
+    uint8_t other[4];
+
+    if (fault == ROOM_BEFORE_MARK && room < 8) {
+        return 16;
+    }
+    if (fault == THIRD_SHORT && third_n == 4) {
+        cut_third(third, other);
+        third = other;
+    }
+    return __real_felica_encrypt_challenge1b(scheme, keys, keys_n, idm, idm_n, third, third_n, random, n, out, room);
+}
+
+uint64_t __wrap_felica_verify_challenge1b(BLOCK_IN, THIRD, RANDOM, CHECKED)
+{
+    uint8_t other[4], made[16];
+    uint64_t answer;
+
+    if (fault == THIRD_SHORT && third_n == 4) {
+        cut_third(third, other);
+        third = other;
+    }
+    answer = __real_felica_verify_challenge1b(scheme, keys, keys_n, idm, idm_n, third, third_n, random, n, checked, checked_n);
+    if (fault == CHECK_7 && answer == 13) {
+        __real_felica_encrypt_challenge1b(scheme, keys, keys_n, idm, idm_n, third, third_n, random, n, made, 16);
+        return memcmp(made, checked, 7) == 0 ? 0 : 13;
+    }
+    return answer;
+}
+
+uint64_t __wrap_felica_encrypt_challenge2a(BLOCK_IN, THIRD, RANDOM, BLOCK_OUT)
+{
+    uint64_t answer;
+
+    if (fault == THIRD_NONE && scheme == 1 && third_n == 0) {
+        third = (const uint8_t *)"\0\0\0";
+        third_n = 4;
+    }
+    answer = __real_felica_encrypt_challenge2a(scheme, keys, keys_n, idm, idm_n, third, third_n, random, n, out, room);
+    if (fault == BLOCK_FIRST && answer == 16 && room != 0) {
+        out[room - 1] ^= 1;
+    }
+    return answer;
+}
+
+uint64_t __wrap_felica_decrypt_challenge2a(BLOCK_IN, THIRD, RANDOM, BLOCK_OUT)
+{
+    uint64_t answer = __real_felica_decrypt_challenge2a(scheme, keys, keys_n, idm, idm_n, third, third_n, random, n, out, room);
+
+    if (fault == BLOCK_BEHIND && felica_answer_length(answer) == 8 && room > 8) {
+        out[8] ^= 1;
+    }
+    return answer;
+}
+
+uint64_t __wrap_felica_encrypt_challenge2b(BLOCK_IN, RANDOM, BLOCK_OUT)
+{
+    volatile uint8_t read = 0;
+
+    if (fault == RANDOM_PAST) {
+        read = random[n];
+    }
+    (void)read;
+    if (fault == MARK_0 && scheme == 0) {
+        scheme = 1;
+    }
+    return __real_felica_encrypt_challenge2b(scheme, keys, keys_n, idm, idm_n, random, n, out, room);
+}
+
+uint64_t __wrap_felica_verify_challenge2b(BLOCK_IN, RANDOM, CHECKED)
+{
+    uint64_t answer;
+
+    if (fault == CHECK_LENGTH && checked_n > n) {
+        checked_n = n;
+    }
+    answer = __real_felica_verify_challenge2b(scheme, keys, keys_n, idm, idm_n, random, n, checked, checked_n);
+    return fault == CHECK_NOT && answer == 13 ? 0 : answer;
+}
+
+uint64_t __wrap_felica_derive_secure_session_keys(RANDOM, BLOCK_OUT)
+{
+    uint8_t whole[32];
+    uint64_t answer;
+
+    if (fault == SESSION_17 && n == 17) {
+        n = 16;
+    }
+    if (fault == SESSION_16 && n == 16 && room >= 16 && room < 32) {
+        __real_felica_derive_secure_session_keys(random, n, whole, 32);
+        memcpy(out, whole, 16);
+        return 16 << 16;
+    }
+    answer = __real_felica_derive_secure_session_keys(random, n, out, room);
+    if (fault == SESSION_SWAPPED && answer % 256 == 0) {
+        memcpy(whole, out, 16);
+        memmove(out, out + 16, 16);
+        memcpy(out + 16, whole, 16);
     }
     return answer;
 }

@@ -25,6 +25,23 @@ FACT(n16, FELICA_OUTPUT_TOO_SMALL == 16);
 FACT(n17, FELICA_BAD_MARK_OR_LENGTH == 17);
 FACT(des, FELICA_SCHEME_DES == 1);
 FACT(aes, FELICA_SCHEME_AES128 == 2);
+FACT(by_keys, FELICA_SCHEME_BY_KEYS == 0);
+FACT(entry, FELICA_KEY_ENTRY_SIZE == 19);
+FACT(algorithm_des, FELICA_ALGORITHM_DES == 1);
+FACT(algorithm_aes, FELICA_ALGORITHM_AES128 == 2);
+FACT(node, FELICA_NODE_SIZE == 2);
+FACT(system, FELICA_NODE_SYSTEM == 0xFFFF);
+FACT(keys, FELICA_KEYS_MAX == 128);
+FACT(areas, FELICA_AREAS_MAX == 32);
+FACT(services, FELICA_SERVICES_MAX == 32);
+FACT(individual, FELICA_INDIVIDUAL_KEY_SIZE == 16);
+FACT(des_derived, FELICA_DES_DERIVED_KEYS_SIZE == 16);
+FACT(aes_derived, FELICA_AES_DERIVED_KEYS_SIZE == 32);
+FACT(idm, FELICA_IDM_SIZE == 8);
+FACT(third, FELICA_CHALLENGE_3C_SIZE == 4);
+FACT(des_block, FELICA_DES_BLOCK_SIZE == 8);
+FACT(aes_block, FELICA_AES_BLOCK_SIZE == 16);
+FACT(session_keys, FELICA_AES_SESSION_KEYS_SIZE == 32);
 FACT(id, FELICA_ID_SIZE == 6);
 FACT(key, FELICA_DES_KEY_SIZE == 8);
 FACT(credentials, FELICA_AES_CREDENTIALS_SIZE == 36);
@@ -40,10 +57,10 @@ static int accessors(void)
     const uint64_t answer = (uint64_t)0x1234 << 32 | (uint64_t)0xABCD << 16 | (uint64_t)0xEF << 8 | 0x56;
 
     return felica_answer_number(answer) == 0x56 && felica_answer_scheme(answer) == 0xEF && felica_answer_length(answer) == 0xABCD &&
-           felica_answer_transaction_number(answer) == 0x1234;
+           felica_answer_transaction_number(answer) == 0x1234 && felica_answer_node(answer) == 0x1234;
 }
 
-// An ID, key or credentials of one byte: 17 from each.
+// An ID, IDm, key, list or credentials of one byte: 17 from each.
 static int calls(void)
 {
     const uint8_t in[1] = {0};
@@ -58,7 +75,17 @@ static int calls(void)
            felica_encrypt_authentication2_payload_des(in, 1, in, 1, out, 1) == bad &&
            felica_decrypt_authentication2_payload_des(in, 1, in, 1, out, 1) == bad &&
            felica_decrypt_authentication2_payload_v2_aes128(in, 1, in, 1, in, 1, out, 1) == bad &&
-           felica_generate_registration_package_des(in, 1, in, 1, out, 1) == bad;
+           felica_generate_registration_package_des(in, 1, in, 1, out, 1) == bad &&
+           felica_derive_auth_keys(0, in, 1, in, 0, in, 0, in, 0, out, 1) == bad &&
+           felica_encrypt_challenge1a(1, in, 1, in, 1, in, 1, out, 1) == bad &&
+           felica_decrypt_challenge1a(2, in, 1, in, 1, in, 1, out, 1) == bad &&
+           felica_encrypt_challenge1b(1, in, 1, in, 1, in, 1, in, 1, out, 1) == bad &&
+           felica_verify_challenge1b(2, in, 1, in, 1, in, 1, in, 1, in, 1) == bad &&
+           felica_encrypt_challenge2a(1, in, 1, in, 1, in, 1, in, 1, out, 1) == bad &&
+           felica_decrypt_challenge2a(2, in, 1, in, 1, in, 1, in, 1, out, 1) == bad &&
+           felica_encrypt_challenge2b(1, in, 1, in, 1, in, 1, out, 1) == bad &&
+           felica_verify_challenge2b(2, in, 1, in, 1, in, 1, in, 1) == bad &&
+           felica_derive_secure_session_keys(in, 1, out, 1) == bad;
 }
 
 int main(void)

@@ -47,6 +47,30 @@ void huge(void)
     check(felica_decrypt_response(2, 0, id, 6, big, OVER + 36, credentials, 32, out, 5000) == 17, "credentials, opening");
     check(felica_generate_registration_package_des(big, OVER + 8, credentials, 32, out, 5000) == 17, "key, package");
 
+    // lists of a derivation: whole ones have too many entries; what would be whole if it were cut is not
+    check(felica_derive_auth_keys(0, big, OVER + 19, id, 2, id, 2, id, 0, out, 5000) == 17, "keys");
+    check(felica_derive_auth_keys(1, id, 0, big, OVER + 2, id, 2, id, 0, out, 5000) == 1, "areas");
+    check(felica_derive_auth_keys(2, id, 0, id, 2, big, OVER + 2, id, 0, out, 5000) == 1, "services");
+    check(felica_derive_auth_keys(0, id, 0, big, OVER, big, OVER, id, 0, out, 5000) == 1, "areas and services");
+    check(felica_derive_auth_keys(2, id, 0, id, 2, id, 2, big, OVER + 16, out, 5000) == 17, "individual key");
+    check(felica_derive_auth_keys(2, id, 0, id, 2, id, 2, big, OVER, out, 5000) == 17, "individual key, none if it were cut");
+
+    // derived keys, an IDm, Challenge 3C, blocks
+    check(felica_encrypt_challenge1a(1, big, OVER + 16, key, 8, key, 8, out, 5000) == 17, "derived keys, 1A");
+    check(felica_encrypt_challenge1a(1, credentials, 16, big, OVER + 8, key, 8, out, 5000) == 17, "IDm, 1A");
+    check(felica_encrypt_challenge1a(1, credentials, 16, key, 8, big, OVER + 8, out, 5000) == 17, "random 1, 1A");
+    check(felica_decrypt_challenge1a(2, big, OVER + 32, key, 8, credentials, 16, out, 5000) == 17, "derived keys, reading 1A");
+    check(felica_decrypt_challenge1a(2, credentials, 32, key, 8, big, OVER + 16, out, 5000) == 17, "1A, reading it");
+    check(felica_encrypt_challenge1b(2, credentials, 32, key, 8, big, OVER + 4, credentials, 16, out, 5000) == 17, "3C, 1B");
+    check(felica_encrypt_challenge1b(2, credentials, 32, big, OVER + 8, id, 4, credentials, 16, out, 5000) == 17, "IDm, 1B");
+    check(felica_verify_challenge1b(2, credentials, 32, key, 8, id, 4, credentials, 16, big, OVER + 16) == 17, "1B, checking it");
+    check(felica_verify_challenge1b(1, credentials, 16, key, 8, big, OVER + 4, key, 8, key, 8) == 17, "3C, checking 1B");
+    check(felica_encrypt_challenge2a(1, credentials, 16, key, 8, id, 4, big, OVER + 8, out, 5000) == 17, "random 2, 2A");
+    check(felica_decrypt_challenge2a(2, credentials, 32, key, 8, id, 4, big, OVER + 16, out, 5000) == 17, "2A, reading it");
+    check(felica_encrypt_challenge2b(1, credentials, 16, key, 8, big, OVER + 8, out, 5000) == 17, "random 2, 2B");
+    check(felica_verify_challenge2b(1, credentials, 16, key, 8, key, 8, big, OVER + 8) == 17, "2B, checking it");
+    check(felica_derive_secure_session_keys(big, OVER + 16, out, 5000) == 17, "random 2, session keys");
+
     check(memcmp(out, before, sizeof before) == 0, "the output changed");
     check(munmap((void *)(uintptr_t)big, n) == 0, "munmap");
 }

@@ -67,6 +67,7 @@ struct call call_of(enum operation operation, unsigned scheme, unsigned seed, st
 {
     struct call c;
 
+    memset(&c, 0, sizeof c);
     c.operation = operation;
     c.scheme = (uint8_t)scheme;
     c.code = (uint8_t)(seed * 37);

@@ -18,6 +18,14 @@ void trips(void);
 void trims(void);
 // Sealed data with a bit changed, cut, or drawn out.
 void damages(void);
+// Derivations: the document's examples of each number, marks, lengths and limits.
+void derivations(void);
+// Derivations with every combination of what can be wrong, and generated ones.
+void crossings(void);
+// Challenges and AES session keys: marks, lengths, rooms, bytes; 1B and 2B with a bit changed.
+void challenges(void);
+// Both ends of an authentication, from derivation to a sealed command and its response.
+void agreements(void);
 // The stored answers of the original Rust, one file. stored_all_seen() then fails where an operation had no case.
 void stored(const char *path);
 unsigned long stored_all_seen(void);
