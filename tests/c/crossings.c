@@ -12,7 +12,8 @@
 // generated ones. The answer of each is that of the document's order, written out in chains.c.
 
 // What the parts can be; none of the first is wrong in itself.
-enum { KEYS_GOOD, KEYS_CUT, KEYS_UNKNOWN, KEYS_MANY, KEYS_TWICE, KEYS_MANY_TWICE, KEYS };
+// Of the keys it is a set.
+enum { KEYS_CUT = 1, KEYS_UNKNOWN = 2, KEYS_MANY = 4, KEYS_TWICE = 8, KEYS = 16 };
 enum { AREAS_ONE, AREAS_NONE, AREAS_MANY, AREAS_CUT, AREAS };
 enum { SERVICES_BEARING, SERVICES_NONE, SERVICES_FREE, SERVICES_MANY, SERVICES_CUT, SERVICES };
 enum { INDIVIDUAL_NONE, INDIVIDUAL_GIVEN, INDIVIDUAL_SHORT, INDIVIDUALS };
@@ -28,7 +29,7 @@ static void keys_of(struct lists *l, unsigned node, unsigned set)
     }
 }
 
-static void fill_keys(struct lists *l, int kind, unsigned sets)
+static void fill_keys(struct lists *l, int wrong, unsigned sets)
 {
     unsigned i;
 
@@ -36,17 +37,17 @@ static void fill_keys(struct lists *l, int kind, unsigned sets)
     keys_of(l, 0x1009, sets % 4);
     keys_of(l, 0x0040, sets / 4 % 4);
     keys_of(l, FELICA_NODE_SYSTEM, sets / 16);
-    if (kind == KEYS_TWICE || kind == KEYS_MANY_TWICE) {
+    if (wrong & KEYS_TWICE) {
         add_key(l, 0x3000, FELICA_ALGORITHM_DES, 4);
         add_key(l, 0x3000, FELICA_ALGORITHM_DES, 5);
     }
-    for (i = 0; (kind == KEYS_MANY || kind == KEYS_MANY_TWICE) && l->keys_n < 129 * 19; i++) {
+    for (i = 0; wrong & KEYS_MANY && l->keys_n < 129 * 19; i++) {
         add_key(l, 0x4000 + i, FELICA_ALGORITHM_AES128, 6);
     }
-    if (kind == KEYS_UNKNOWN) {
+    if (wrong & KEYS_UNKNOWN) {
         add_key(l, 0x5000, 0, 7);
     }
-    l->keys_n += kind == KEYS_CUT;
+    l->keys_n += wrong & KEYS_CUT;
 }
 
 static void fill_nodes(struct lists *l, int areas, int services)
@@ -63,7 +64,7 @@ static void fill_nodes(struct lists *l, int areas, int services)
     l->services_n += services == SERVICES_CUT;
 }
 
-// In exactly the room that it takes, in one byte less, and in none.
+// In exactly the room that it takes, in one byte less, and in none; a refusal in room and in none.
 static void in_rooms(const struct call *c, unsigned place, unsigned long *seen)
 {
     struct derived d = derivation_of(c);
@@ -71,8 +72,12 @@ static void in_rooms(const struct call *c, unsigned place, unsigned long *seen)
 
     seen[d.answer % 256]++;
     answers(c, n, place, d.answer, d.bytes);
-    answers(c, n == 0 ? 300 : n - 1, place + 1, n == 0 ? d.answer : FELICA_OUTPUT_TOO_SMALL, d.bytes);
-    answers(c, 0, place + 2, n == 0 ? d.answer : FELICA_OUTPUT_TOO_SMALL, d.bytes);
+    if (n == 0) {
+        answers(c, 300, place + 1, d.answer, d.bytes);
+    } else {
+        answers(c, n - 1, place + 1, FELICA_OUTPUT_TOO_SMALL, d.bytes);
+        answers(c, 0, place + 2, FELICA_OUTPUT_TOO_SMALL, d.bytes);
+    }
 }
 
 static void cross(unsigned mark, unsigned long *seen)
@@ -85,7 +90,8 @@ static void cross(unsigned mark, unsigned long *seen)
     for (keys = 0; keys < KEYS; keys++) {
         for (areas = 0; areas < AREAS; areas++) {
             for (services = 0; services < SERVICES; services++) {
-                for (sets = 0; sets < 64; sets++) {
+                // long lists take long, and what comes behind 1 they do not show
+                for (sets = 0; sets < 64; sets += keys & KEYS_MANY ? 7 : 1) {
                     clear(&l);
                     fill_keys(&l, keys, sets);
                     fill_nodes(&l, areas, services);

@@ -147,24 +147,34 @@ static void run_case(const struct form *f, char **fields, int count)
 }
 
 // Cases of other operations are not this test's.
+static const struct form *form_of(const char *word)
+{
+    size_t i;
+
+    for (i = 0; word != NULL && i < FORMS; i++) {
+        if (strcmp(word, forms[i].word) == 0) {
+            return &forms[i];
+        }
+    }
+    return NULL;
+}
+
 static void run_line(char *line)
 {
     char *fields[FIELDS];
-    char *field;
-    size_t i;
+    char *field = strtok(line, " ");
+    const struct form *f = form_of(field);
     int count = 0;
 
-    for (field = strtok(line, " "); field != NULL; field = strtok(NULL, " ")) {
+    for (; f != NULL && field != NULL; field = strtok(NULL, " ")) {
         check(count < FIELDS, "fields of a stored answer");
         fields[count++] = field;
     }
     if (count > 1 && strcmp(fields[count - 1], "departs") == 0) {
         count--;
     }
-    for (i = 0; count > 0 && i < FORMS; i++) {
-        if (strcmp(fields[0], forms[i].word) == 0) {
-            run_case(&forms[i], fields, count);
-        }
+    if (f != NULL) {
+        run_case(f, fields, count);
     }
 }
 
