@@ -40,10 +40,39 @@ NUMBERS = {
     "package": {
         "err InvalidParameter registration package must be multiple of 8 bytes": 10,
     },
+    "derive": {
+        "err EmptyChain": 3,
+        "err MissingKey": 4,
+        "err MixedAlgorithm": 5,
+        "err IndividualKeyNotApplicable": 6,
+        "err DesRequiresArea": 7,
+        "err DesRequiresService": 8,
+    },
+    "check": {
+        "ok 0": 13,
+    },
+    "step": {
+        "err SecureSession transaction number overflow during secure session": 9,
+    },
+    "apply": {
+        "err Protocol authentication2 response length must be multiple of 8 bytes": 10,
+        "err Protocol secure response shorter than minimum encrypted payload": 11,
+        "err SecureSession secure response MAC verification failed": 13,
+        "err SecureSession secure response transaction ID mismatch": 14,
+        "err SecureSession secure response transaction number did not advance": 15,
+    },
 }
 
-# The operations that return a transaction number before the bytes.
-WITH_NUMBER = ("open", "auth2open_aes")
+# What an answer has after its number; a refusal has zeros and no bytes there. n is a number, b are bytes.
+AFTER = {
+    "open": "nb",
+    "auth2open_aes": "nb",
+    "derive": "nnb",
+    "check": "",
+    "step": "n",
+    "index": "n",
+    "apply": "nb",
+}
 
 
 def text(value):
@@ -53,18 +82,49 @@ def text(value):
     return str(value)
 
 
-def refusal(operation, number):
-    """The answer's fields where the operation turns the call down: the number only."""
-    return (number, 0, b"") if operation in WITH_NUMBER else (number, b"")
+def refusal(operation, number, *values):
+    """The answer's fields where the operation turns the call down: the number, and the node with 4."""
+    after = AFTER.get(operation, "b")[len(values) :]
+    return (number, *values, *(0 if kind == "n" else b"" for kind in after))
 
 
-def answer(operation, said):
-    """The original's answer as fields: the number, the transaction number where there is one, the bytes."""
+def data(word):
+    return b"" if word == "-" else bytes.fromhex(word)
+
+
+def answer(original, operation, inputs):
+    """The original's answer as fields: the number, then what AFTER names. None where it has no such call, or where
+    its types have no such input."""
+    said = original.ask(operation, *inputs)
+    if said.startswith(("absent", "malformed")):
+        return None
+    # A session's number after the call: a refusal leaves it.
+    said, _, left = said.partition(" (")
+    assert not left or left == f"{inputs[0]})"
     words = said.split()
-    if words[0] != "ok":
+    if said.startswith("err MissingKey"):
+        return refusal(operation, 4, int(words[2]))
+    if said in NUMBERS.get(operation, {}):
         return refusal(operation, NUMBERS[operation][said])
-    data = b"" if words[-1] == "-" else bytes.fromhex(words[-1])
-    return (0, int(words[1]), data) if operation in WITH_NUMBER else (0, data)
+    if operation == "index":
+        return (0, 64 if said == "none" else int(words[1]))
+    assert words[0] == "ok", said
+    if operation == "keyfree":
+        return (int(words[1]),)
+    if operation == "derive":
+        return (0, 0, int(words[1]), data(words[2]))
+    if operation == "step":
+        assert words[1] == words[2]
+        return (0, int(words[1]))
+    if operation == "apply":
+        # The payload is that of the opening.
+        _, number, payload = answer(original, "open", (1, inputs[3], inputs[1], inputs[2], inputs[4]))
+        assert number == int(words[1])
+        return (0, number, payload)
+    if operation == "check":
+        return (0,)
+    fields = AFTER.get(operation, "b")
+    return (0, *(int(w) if kind == "n" else data(w) for kind, w in zip(fields, words[1:])))
 
 
 class Original:
@@ -81,7 +141,7 @@ class Original:
         command = " ".join(text(f) for f in fields)
         self.process.stdin.write(command + "\n")
         said = self.process.stdout.readline().rstrip("\n")
-        if not said or said.startswith(("malformed", "panic")):
+        if not said or said.startswith("panic"):
             raise SystemExit(f"{command}\n    {said}")
         return said
 

@@ -1,4 +1,4 @@
-// Puts the original's stored answers in data/ to the operations of `frame`, and prints a table.
+// Puts the original's stored answers in data/ to the operations of `frame` and `session`, and prints a table.
 //
 // oracle/make_cases.py writes the files and what the table has to be. The first line of a file says
 // what it has, a line that starts with '#' is a comment, and each other line is a case: the operation's
@@ -6,6 +6,11 @@
 // one) and numbers in decimal (case.rt says which stands where). The table is that of crate `textfile`.
 mod call;
 mod case;
+mod challenge;
+mod derive;
+mod field;
+mod sealed;
+mod steps;
 
 use call::Kind;
 use textfile::Tally;
@@ -16,7 +21,10 @@ fn main() {
     let opened = opening(sealed);
     let authenticated = authentication(opened);
     let a = run_set(authenticated, Kind::Package, b"package_1.txt");
-    let all = run_set(a, Kind::Package, b"package_2.txt");
+    let b = run_set(a, Kind::Package, b"package_2.txt");
+    let derived = derivation(b);
+    let challenged = challenges(derived);
+    let all = session(challenged);
     textfile::print_sum(all);
     textfile::print_departed(all, b"of them depart from the original\n");
 }
@@ -39,6 +47,26 @@ fn authentication(so_far: Tally) -> Tally {
     let a = run_set(so_far, Kind::Auth2Seal, b"auth2seal.txt");
     let b = run_set(a, Kind::Auth2OpenDes, b"auth2open_des.txt");
     run_set(b, Kind::Auth2OpenAes, b"auth2open_aes.txt")
+}
+
+fn derivation(so_far: Tally) -> Tally {
+    let a = run_set(so_far, Kind::Derive, b"derive_1.txt");
+    let b = run_set(a, Kind::Derive, b"derive_2.txt");
+    let c = run_set(b, Kind::Derive, b"derive_3.txt");
+    run_set(c, Kind::KeyFree, b"keyfree.txt")
+}
+
+fn challenges(so_far: Tally) -> Tally {
+    let a = run_set(so_far, Kind::Make, b"make.txt");
+    let b = run_set(a, Kind::Read, b"read.txt");
+    let c = run_set(b, Kind::Check, b"check.txt");
+    run_set(c, Kind::SessionKeys, b"session_keys.txt")
+}
+
+fn session(so_far: Tally) -> Tally {
+    let a = run_set(so_far, Kind::Step, b"step.txt");
+    let b = run_set(a, Kind::Index, b"index.txt");
+    run_set(b, Kind::Apply, b"apply.txt")
 }
 
 // Runs one file, prints its row, and answers the counts so far with its own added.
