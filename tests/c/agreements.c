@@ -131,7 +131,8 @@ static void challenges_of(struct ends *e)
 // A command from one end opens at the other; in a response frame likewise.
 static void seals(const struct ends *e, const uint8_t *from, const uint8_t *to, int frames)
 {
-    size_t credentials_n = e->scheme == FELICA_SCHEME_DES ? 8 : 36, added = e->scheme == FELICA_SCHEME_DES ? 16 : 10, front = frames ? 2 : 0;
+    int is_des = e->scheme == FELICA_SCHEME_DES;
+    size_t credentials_n = is_des ? 8 : 36, added = is_des ? 16 : 10, front = frames ? 2 : 0;
     struct text payload = sample(e->seed + 53000, e->seed % 30 * 8);
     uint8_t sealed[255];
     struct call c;

@@ -82,8 +82,8 @@ unsigned long calls(void)
 void describe_call(char *to, size_t n)
 {
     snprintf(to, n,
-             "call %lu: %s scheme %u code %u number %u ID %zu credentials %zu data %zu (starts %02x) 3C %zu checked %zu areas %zu services %zu "
-             "individual %zu output %zu, buffers %s: %016llx",
+             "call %lu: %s scheme %u code %u number %u ID %zu credentials %zu data %zu (starts %02x) 3C %zu checked %zu areas %zu "
+             "services %zu individual %zu output %zu, buffers %s: %016llx",
              count, names[last.operation], last.scheme, last.code, last.number, last.id.n, last.credentials.n, last.data.n, last_first,
              last.challenge_3c.n, last.checked.n, last.areas.n, last.services.n, last.individual.n, last_room, places[last_place],
              (unsigned long long)last_answer);

@@ -120,9 +120,78 @@ static void examples(void)
     }
 }
 
+// A row at a time is put right, and the next one shows.
+static void rows_des(void)
+{
+    const struct text none = text_of(NULL, 0), given = sample(6, 16);
+    int step, set;
+
+    clear(&lists);
+    for (step = 0; step <= 7; step++) {
+        if (step >= 2) {
+            add_area(&lists, 0x0040);
+            add_area(&lists, 0x0000);
+        }
+        add_service(&lists, 0x1009);
+        if (step >= 3) {
+            add_service(&lists, 0x1048);
+            add_service(&lists, 0x1008);
+        }
+        for (set = 4; set <= step; set++) {
+            static const unsigned nodes[] = {SYSTEM, 0x0040, 0x0000, 0x1048};
+
+            keys(nodes[set - 4], DES);
+        }
+        if (step == 0) {
+            turned_down(DES, given, 6);
+        } else if (step <= 2) {
+            turned_down(DES, none, step == 1 ? 7 : 8);
+        } else {
+            static const unsigned nodes[] = {SYSTEM, 0x0040, 0x0000, 0x1048, 0x1008};
+
+            turned_down(DES, none, missing(nodes[step - 3]));
+        }
+    }
+}
+
+// 4 and 5 are one row: the first node that lacks its key decides which.
+static void rows_of_nodes(void)
+{
+    const struct text none = text_of(NULL, 0);
+    unsigned scheme, first;
+
+    clear(&lists);
+    for (scheme = DES; scheme <= AES; scheme++) {
+        for (first = 0; first < 2; first++) {
+            // two areas, one with the other algorithm and one with no key
+            add_area(&lists, first ? 0x0040 : 0x0080);
+            add_area(&lists, first ? 0x0080 : 0x0040);
+            add_service(&lists, 0x1008);
+            keys(SYSTEM, scheme);
+            keys(0x0040, 3 - scheme);
+            turned_down(scheme, none, first ? 5 : missing(0x0080));
+            // two services likewise; the areas come first
+            add_area(&lists, 0x0000);
+            add_service(&lists, first ? 0x1048 : 0x1008);
+            add_service(&lists, first ? 0x1008 : 0x1048);
+            keys(SYSTEM, scheme);
+            keys(0x1048, 3 - scheme);
+            turned_down(scheme, none, missing(0x0000));
+            add_area(&lists, 0x0000);
+            add_service(&lists, first ? 0x1048 : 0x1008);
+            add_service(&lists, first ? 0x1008 : 0x1048);
+            keys(SYSTEM, scheme);
+            keys(0x0000, scheme);
+            keys(0x1048, 3 - scheme);
+            turned_down(scheme, none, first ? 5 : missing(0x1008));
+        }
+    }
+}
+
 static void targets(void)
 {
     const struct text none = text_of(NULL, 0), given = sample(5, 16);
+    unsigned mark, algorithm;
 
     clear(&lists);
     // the target's 4 comes before 6, 7 and 8
@@ -142,7 +211,18 @@ static void targets(void)
     keys(0x1048, AES);
     keys(0x1009, AES);
     turned_down(BY_KEYS, none, missing(0x1008));
-    // a target with both algorithms makes an AES chain, also where that then lacks a key
+    // a target with both algorithms makes an AES chain; DES can be forced
+    for (mark = BY_KEYS; mark <= AES; mark++) {
+        keys(SYSTEM, DES);
+        for (algorithm = DES; algorithm <= AES; algorithm++) {
+            keys(0x0000, algorithm);
+            keys(0x1008, algorithm);
+        }
+        add_area(&lists, 0x0000);
+        add_service(&lists, 0x1008);
+        accepted(mark, none, mark == DES ? DES : AES);
+    }
+    // also where that then lacks a key
     add_area(&lists, 0x0000);
     add_service(&lists, 0x1008);
     keys(SYSTEM, DES);
@@ -423,6 +503,8 @@ void derivations(void)
 
     part("derivations");
     examples();
+    rows_des();
+    rows_of_nodes();
     targets();
     chains();
     key_free_codes();

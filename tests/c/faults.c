@@ -60,7 +60,7 @@
     F(KEYS_128, "derivation: 128 keys are too many") \
     F(SERVICES_32, "derivation: 32 services are too many") \
     F(TWICE_FIRST, "derivation: 2 before 1") \
-    F(TWICE_NOT, "derivation: the last key of a node wins") \
+    F(TWICE_NOT, "derivation: takes two keys of a node, where the last entry is one") \
     F(EMPTY_DES, "derivation: 3 in the place of 7") \
     F(NO_NODE, "derivation: 4 without the node") \
     F(NODE_SWAPPED, "derivation: 4 with the node's bytes exchanged") \
@@ -374,7 +374,8 @@ static uint64_t derive_from(DERIVING)
     }
     (void)read;
     if (fault == SERVICES_FIRST) {
-        return __real_felica_derive_auth_keys(mark, keys, keys_n, services, services_n, areas, areas_n, individual, individual_n, out, room);
+        return __real_felica_derive_auth_keys(mark, keys, keys_n, services, services_n, areas, areas_n, individual, individual_n, out,
+                                              room);
     }
     return __real_felica_derive_auth_keys(mark, keys, keys_n, areas, areas_n, services, services_n, individual, individual_n, out, room);
 }
@@ -422,7 +423,10 @@ uint64_t __wrap_felica_derive_auth_keys(DERIVING)
     case TWICE_FIRST:
         return answer == 1 && twice(keys, keys_n) ? 2 : answer;
     case TWICE_NOT:
-        return answer != 2 ? answer : derive_from(mark, keys, keys_n - 19, areas, areas_n, services, services_n, individual, individual_n, out, room);
+        if (answer == 2) {
+            return derive_from(mark, keys, keys_n - 19, areas, areas_n, services, services_n, individual, individual_n, out, room);
+        }
+        return answer;
     case EMPTY_DES:
         return answer == 7 && services_n == 0 ? 3 : answer;
     case NO_NODE:
@@ -435,7 +439,7 @@ uint64_t __wrap_felica_derive_auth_keys(DERIVING)
         return answer & ~(uint64_t)0xFF00;
     case FALLS_BACK:
     case DES_PREFERRED:
-        if (mark == 0 && (answer == 5 || (fault == DES_PREFERRED && answer % 256 == 0))) {
+        if (mark == 0 && (fault == FALLS_BACK ? answer == 5 : answer % 256 == 0)) {
             des = derive_from(1, keys, keys_n, areas, areas_n, services, services_n, individual, individual_n, whole, 32);
             if (des % 256 == 0 && room >= 32) {
                 memcpy(out, whole, 16);
