@@ -1,6 +1,7 @@
 #include "parts.h"
 
 #include "call.h"
+#include "chains.h"
 #include "check.h"
 #include "layout.h"
 
@@ -14,28 +15,41 @@
 // field 'departs' marks an answer that is this library's by its rules and not the original's. A line that starts with '#' is a comment.
 struct form {
     const char *word;
+    // the second field, where it says which operation it is
+    const char *which;
     enum operation operation;
-    // what the inputs are: scheme, code, number, ID, credentials, data
+    // what the inputs are: scheme or mark, code, number, ID or IDm, keys or credentials, data, Challenge 3C, x for what is checked, areas,
+    // v for services, p for an individual key, - for what the C function does not take
     const char *inputs;
-    // the answer has a transaction number
-    int opens;
+    // what stands behind the number: transaction number, node, mark, bytes
+    const char *values;
 };
 
 static const struct form forms[] = {
-    {"seal", SEAL, "scnikd", 0},
-    {"frame", FRAME, "scnikd", 0},
-    {"open", OPEN, "scikd", 1},
-    {"auth2seal", AUTH2_SEAL, "kd", 0},
-    {"auth2open_des", AUTH2_OPEN_DES, "kd", 0},
-    {"auth2open_aes", AUTH2_OPEN_AES, "ikd", 1},
-    {"package", PACKAGE, "kd", 0},
+    {"seal", NULL, SEAL, "scnikd", "b"},
+    {"frame", NULL, FRAME, "scnikd", "b"},
+    {"open", NULL, OPEN, "scikd", "tb"},
+    {"auth2seal", NULL, AUTH2_SEAL, "kd", "b"},
+    {"auth2open_des", NULL, AUTH2_OPEN_DES, "kd", "b"},
+    {"auth2open_aes", NULL, AUTH2_OPEN_AES, "ikd", "tb"},
+    {"package", NULL, PACKAGE, "kd", "b"},
+    {"derive", NULL, DERIVE, "skavp", "nmb"},
+    {"make", "1a", MAKE_1A, "sik-d", "b"},
+    {"make", "1b", MAKE_1B, "sik3d", "b"},
+    {"make", "2a", MAKE_2A, "sik3d", "b"},
+    {"make", "2b", MAKE_2B, "sik-d", "b"},
+    {"read", "1a", READ_1A, "sik-d", "b"},
+    {"read", "2a", READ_2A, "sik3d", "b"},
+    {"check", "1b", CHECK_1B, "sik3dx", ""},
+    {"check", "2b", CHECK_2B, "sik-dx", ""},
+    {"session_keys", NULL, SESSION_KEYS, "--d", "b"},
 };
 
 #define FORMS (sizeof forms / sizeof forms[0])
 #define LINE 100000
 #define FIELDS 12
 
-// Cases by operation and scheme; those without a scheme count as of scheme 0.
+// Cases by operation and scheme; those without a known one count as of scheme 0.
 static unsigned long seen[FORMS][3];
 
 static unsigned long number_of(const char *field, unsigned long most)
@@ -92,52 +106,106 @@ static void forecast(const struct call *c, unsigned number, size_t n)
           "a forecast is not within 7 bytes of the stored size");
 }
 
+// The layouts as this test has them are the original's.
+static void as_written_here(const struct call *c, uint64_t answer, struct text wanted)
+{
+    uint8_t bytes[32];
+
+    if (c->operation == DERIVE) {
+        struct derived d = derivation_of(c);
+
+        check(d.answer == answer && (wanted.n == 0 || memcmp(d.bytes, wanted.at, wanted.n) == 0), "a stored derivation is not this test's");
+    } else if (answer % 256 == 0 && wanted.n != 0 && c->operation >= MAKE_1A && c->operation != READ_1A && c->operation != READ_2A) {
+        if (c->operation == SESSION_KEYS) {
+            session_keys_of(c->data.at, bytes);
+        } else {
+            challenge_of(c, bytes);
+        }
+        check(memcmp(bytes, wanted.at, wanted.n) == 0, "a stored challenge is not this test's");
+    }
+}
+
+static void take_input(struct call *c, char input, char *field)
+{
+    switch (input) {
+    case 's':
+        c->scheme = (uint8_t)number_of(field, 255);
+        break;
+    case 'c':
+        c->code = (uint8_t)number_of(field, 255);
+        break;
+    case 'n':
+        c->number = (uint16_t)number_of(field, 65535);
+        break;
+    case 'i':
+        c->id = bytes_of(field);
+        break;
+    case 'k':
+        c->credentials = bytes_of(field);
+        break;
+    case '3':
+        c->challenge_3c = bytes_of(field);
+        break;
+    case 'x':
+        c->checked = bytes_of(field);
+        break;
+    case 'a':
+        c->areas = bytes_of(field);
+        break;
+    case 'v':
+        c->services = bytes_of(field);
+        break;
+    case 'p':
+        c->individual = bytes_of(field);
+        break;
+    case 'd':
+        c->data = bytes_of(field);
+        break;
+    default:
+        break;
+    }
+}
+
 static void run_case(const struct form *f, char **fields, int count)
 {
-    struct call c = call_of(f->operation, 0, 0, text_of(NULL, 0));
-    const char *input;
-    unsigned number, transaction = 0;
-    struct text wanted;
-    int at = 1;
+    struct call c;
+    const char *each;
+    unsigned number, transaction = 0, node = 0, mark = 0;
+    struct text wanted = text_of(NULL, 0);
+    int at = f->which == NULL ? 1 : 2;
 
-    c.id = text_of(NULL, 0);
-    check(count == 1 + (int)strlen(f->inputs) + 2 + f->opens, "fields of a stored answer");
-    for (input = f->inputs; *input != 0; input++) {
-        char *field = fields[at++];
-
-        switch (*input) {
-        case 's':
-            c.scheme = (uint8_t)number_of(field, 2);
-            break;
-        case 'c':
-            c.code = (uint8_t)number_of(field, 255);
-            break;
-        case 'n':
-            c.number = (uint16_t)number_of(field, 65535);
-            break;
-        case 'i':
-            c.id = bytes_of(field);
-            break;
-        case 'k':
-            c.credentials = bytes_of(field);
-            break;
-        default:
-            c.data = bytes_of(field);
-        }
+    memset(&c, 0, sizeof c);
+    c.operation = f->operation;
+    check(count == at + (int)strlen(f->inputs) + 1 + (int)strlen(f->values), "fields of a stored answer");
+    for (each = f->inputs; *each != 0; each++) {
+        take_input(&c, *each, fields[at++]);
     }
     number = (unsigned)number_of(fields[at++], 17);
-    if (f->opens) {
-        transaction = (unsigned)number_of(fields[at++], 65535);
-    }
-    wanted = bytes_of(fields[at]);
-    seen[f - forms][c.scheme]++;
+    for (each = f->values; *each != 0; each++) {
+        char *field = fields[at++];
 
+        if (*each == 't') {
+            transaction = (unsigned)number_of(field, 65535);
+        } else if (*each == 'n') {
+            node = (unsigned)number_of(field, 65535);
+        } else if (*each == 'm') {
+            mark = (unsigned)number_of(field, 2);
+        } else {
+            wanted = bytes_of(field);
+        }
+    }
+    seen[f - forms][c.scheme <= 2 ? c.scheme : 0]++;
+
+    check(number == FELICA_KEY_MISSING || node == 0, "a stored node without 4");
     if (number != 0) {
-        check(transaction == 0 && wanted.n == 0, "a stored refusal with more than a number");
-        refuses(&c, number);
+        check(transaction == 0 && mark == 0 && wanted.n == 0, "a stored refusal with more than a number");
+        refuses(&c, number | (uint64_t)node << 32);
+    } else if (f->operation == DERIVE) {
+        derives(&c, mark, wanted.n, wanted.at, NULL);
     } else {
         gives(&c, transaction, wanted.n, wanted.at, NULL);
     }
+    as_written_here(&c, number | (uint64_t)node << 32 | (uint64_t)wanted.n << 16 | (uint64_t)mark << 8, wanted);
     if (f->operation == OPEN && c.scheme == FELICA_SCHEME_DES) {
         trimmed(c, number, transaction, wanted);
     }
@@ -147,35 +215,39 @@ static void run_case(const struct form *f, char **fields, int count)
 }
 
 // Cases of other operations are not this test's.
-static const struct form *form_of(const char *word)
+static int is_known(const char *word)
 {
-    size_t i;
+    size_t i = 0;
 
-    for (i = 0; word != NULL && i < FORMS; i++) {
-        if (strcmp(word, forms[i].word) == 0) {
-            return &forms[i];
-        }
+    while (word != NULL && i < FORMS && strcmp(word, forms[i].word) != 0) {
+        i++;
     }
-    return NULL;
+    return word != NULL && i < FORMS;
 }
 
 static void run_line(char *line)
 {
     char *fields[FIELDS];
     char *field = strtok(line, " ");
-    const struct form *f = form_of(field);
+    size_t i = 0;
     int count = 0;
 
-    for (; f != NULL && field != NULL; field = strtok(NULL, " ")) {
+    if (!is_known(field)) {
+        return;
+    }
+    for (; field != NULL; field = strtok(NULL, " ")) {
         check(count < FIELDS, "fields of a stored answer");
         fields[count++] = field;
     }
-    if (count > 1 && strcmp(fields[count - 1], "departs") == 0) {
+    if (strcmp(fields[count - 1], "departs") == 0) {
         count--;
     }
-    if (f != NULL) {
-        run_case(f, fields, count);
+    check(count > 1, "fields of a stored answer");
+    while (i < FORMS && (strcmp(fields[0], forms[i].word) != 0 || (forms[i].which != NULL && strcmp(fields[1], forms[i].which) != 0))) {
+        i++;
     }
+    check(i < FORMS, "a stored answer of an unknown kind");
+    run_case(&forms[i], fields, count);
 }
 
 void stored(const char *path)
@@ -206,7 +278,7 @@ unsigned long stored_all_seen(void)
     part("stored answers");
     for (i = 0; i < FORMS; i++) {
         for (scheme = 0; scheme < 3; scheme++) {
-            int has = forms[i].inputs[0] == 's' ? scheme != 0 : scheme == 0;
+            int has = forms[i].inputs[0] == 's' ? scheme != 0 || forms[i].operation == DERIVE : scheme == 0;
 
             check(!has || seen[i][scheme] != 0, "an operation with no stored answer");
             sum += seen[i][scheme];
