@@ -25,7 +25,15 @@ from cases import Cases, files
 from original import HERE, ROOT, Original
 
 OUT = os.path.join(ROOT, "crates", "replay")
-RUNS = []
+RUNS = [
+    # The making, each response, and the session at the end.
+    ("Session: 65,537 responses turned away", 1 + 65537 + 1),
+    # The making and six steps; in each scheme the making and ten responses.
+    ("Session: number and response steps at their corners", 1 + 6 + 2 * (1 + 10)),
+    # Two derivations and their keys, five checks about random 1, five about random 2, eight about two frames; AES has
+    # three about session keys. Each scheme by its mark and by mark 0.
+    ("Both ends through every call, by mark and scheme", 2 * (3 + 5 + 5 + 8) + 2 * (3 + 5 + 5 + 3 + 8)),
+]
 
 
 def differing(wanted, folder):

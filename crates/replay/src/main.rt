@@ -7,8 +7,11 @@
 mod call;
 mod case;
 mod challenge;
+mod corners;
 mod derive;
+mod ends;
 mod field;
+mod note;
 mod sealed;
 mod steps;
 
@@ -24,7 +27,8 @@ fn main() {
     let b = run_set(a, Kind::Package, b"package_2.txt");
     let derived = derivation(b);
     let challenged = challenges(derived);
-    let all = session(challenged);
+    let stepped = session(challenged);
+    let all = own_runs(stepped);
     textfile::print_sum(all);
     textfile::print_departed(all, b"of them depart from the original\n");
 }
@@ -67,6 +71,32 @@ fn session(so_far: Tally) -> Tally {
     let a = run_set(so_far, Kind::Step, b"step.txt");
     let b = run_set(a, Kind::Index, b"index.txt");
     run_set(b, Kind::Apply, b"apply.txt")
+}
+
+// The runs that have no file. A row's title stands in the place of one.
+fn own_runs(so_far: Tally) -> Tally {
+    let many = corners::many(textfile::none());
+    textfile::print_row(many, b"# Session: 65,537 responses turned away\n");
+    let stepped = corners::stepping(textfile::none());
+    let des = corners::responses(stepped, 1);
+    let both = corners::responses(des, 2);
+    textfile::print_row(
+        both,
+        b"# Session: number and response steps at their corners\n",
+    );
+    let ends = agreeing(textfile::none());
+    textfile::print_row(
+        ends,
+        b"# Both ends through every call, by mark and scheme\n",
+    );
+    textfile::sum(so_far, textfile::sum(many, textfile::sum(both, ends)))
+}
+
+fn agreeing(so_far: Tally) -> Tally {
+    let a = ends::with_des(so_far, 1);
+    let b = ends::with_aes(a, 2);
+    let c = ends::with_des(b, 0);
+    ends::with_aes(c, 0)
 }
 
 // Runs one file, prints its row, and answers the counts so far with its own added.
