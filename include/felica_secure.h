@@ -1,6 +1,6 @@
 // The FeliCa protocol's secure session, for C99 and C++11: key derivation, the challenges of an authentication, AES session keys; sealed
-// commands and responses in both schemes, response frames, Authentication 2, the DES registration package. The archive is libsession.a
-// (`rt staticlib session`), for x86-64 Linux.
+// commands and responses in both schemes, response frames, Authentication 2, the DES registration package; the session. The archive is
+// libsession.a (`rt staticlib session`), for x86-64 Linux.
 //
 // Proved, for every call whose buffers are as the caller's part below says: the call ends, and its answer and its whole output are those
 // of a definition in crates/session/specs or crates/frame/specs, which docs/STATUS.md names for each function.
@@ -75,8 +75,15 @@ extern "C" {
 // The longest plain registration package. The package made of it is 8 bytes longer.
 #define FELICA_PACKAGE_MAX 4096
 
+// A session, as bytes that the caller keeps, and what the first of them is.
+#define FELICA_SESSION_SIZE 178
+#define FELICA_SESSION_VERSION 1
+// The most nodes of a session.
+#define FELICA_SESSION_NODES_MAX 64
+// In place of the index of a node that a session does not have.
+#define FELICA_NODE_NOT_LISTED 64
+
 // ---- numbers (docs/NUMBERS.md). The first condition that holds, in the order that stands at each function, decides.
-// 9 and 15 come with a session for C: no function here gives them.
 
 #define FELICA_OK 0
 // Over 128 keys, 32 areas, 32 services or 64 session nodes.
@@ -123,7 +130,7 @@ static inline uint8_t felica_answer_number(uint64_t answer)
     return (uint8_t)(answer & 0xFF);
 }
 
-// Bits 8 to 15: the scheme mark that an accepted derivation used, 1 or 2; else 0.
+// Bits 8 to 15: the scheme mark that an accepted derivation used, or that felica_session_scheme tells, 1 or 2; else 0.
 static inline uint8_t felica_answer_scheme(uint64_t answer)
 {
     return (uint8_t)((answer >> 8) & 0xFF);
@@ -135,7 +142,19 @@ static inline uint16_t felica_answer_length(uint64_t answer)
     return (uint16_t)((answer >> 16) & 0xFFFF);
 }
 
-// Bits 32 to 47: the transaction number of what was opened, else 0.
+// The same bits with felica_session_node_index: a node's place, or FELICA_NODE_NOT_LISTED.
+static inline uint16_t felica_answer_index(uint64_t answer)
+{
+    return (uint16_t)((answer >> 16) & 0xFFFF);
+}
+
+// The same bits with felica_session_turned_away: how many responses were turned away.
+static inline uint16_t felica_answer_count(uint64_t answer)
+{
+    return (uint16_t)((answer >> 16) & 0xFFFF);
+}
+
+// Bits 32 to 47: the transaction number of what was opened, or of a session; else 0.
 static inline uint16_t felica_answer_transaction_number(uint64_t answer)
 {
     return (uint16_t)((answer >> 32) & 0xFFFF);
@@ -312,6 +331,70 @@ uint64_t felica_decrypt_authentication2_payload_v2_aes128(const uint8_t *id, siz
                                                           const uint8_t *credentials, size_t credentials_len,
                                                           const uint8_t *data, size_t data_len,
                                                           uint8_t *out, size_t out_len);
+
+// ---- the session after an authentication: transaction number, transaction ID, scheme, credentials, nodes, and how many responses were
+// turned away. It is FELICA_SESSION_SIZE bytes, which the caller keeps between calls and hands back as they are; they hold secrets. All
+// that the library knows of a session is in these bytes, so the number and the count are as true as they are. Their layout is that of
+// the version, the first byte; another version has another.
+// Refusal 17 of each call here but the first: other than FELICA_SESSION_SIZE bytes, a first byte other than FELICA_SESSION_VERSION, or an
+// unknown scheme mark in them. A call that is turned down leaves them as they were, but for the count.
+
+// Makes a session with its number, ID, credentials (FELICA_DES_KEY_SIZE or FELICA_AES_CREDENTIALS_SIZE bytes, as the scheme mark says) and
+// nodes, of FELICA_NODE_SIZE bytes each. Writes the session, FELICA_SESSION_SIZE bytes; the output has exactly as many.
+// Refusals: 17 (mark, ID, credentials, nodes that are no whole number of entries, the output), 1 (over 64 nodes).
+uint64_t felica_session_new(uint8_t scheme, uint16_t number,
+                            const uint8_t *id, size_t id_len,
+                            const uint8_t *credentials, size_t credentials_len,
+                            const uint8_t *nodes, size_t nodes_len,
+                            uint8_t *session, size_t session_len);
+
+// Steps the number, before a command is sealed. The answer has the new number.
+// Refusals: 17, 9.
+uint64_t felica_session_increment_transaction_number(uint8_t *session, size_t session_len);
+
+// Sets the number, whatever it was; it may go back.
+// Refusal: 17.
+uint64_t felica_session_set_transaction_number(uint8_t *session, size_t session_len, uint16_t number);
+
+// Seals a command with the session's number, ID and credentials, as felica_encrypt_command does. It steps nothing: the next command is
+// felica_session_increment_transaction_number, then this. A number that was stepped for a sealing that is then refused is spent.
+// Refusals: 17, 12 (payload over 232 with DES, 243 with AES), 16.
+uint64_t felica_session_encrypt_command(const uint8_t *session, size_t session_len, uint8_t code,
+                                        const uint8_t *payload, size_t payload_len,
+                                        uint8_t *out, size_t out_len);
+
+// Opens a response (what follows the length byte and the code) as felica_decrypt_response does, requires its number to be above the
+// session's, and sets the session's number to it. A refusal from 10 to 15 is counted, up to 65,535; 16 and 17 are not.
+// Refusals, DES: 17, 10, 11, 12, 13, 14, 15, 16. Refusals, AES: 17, 11, 12, 13, 15, 16.
+uint64_t felica_session_apply_response(uint8_t *session, size_t session_len, uint8_t code,
+                                       const uint8_t *data, size_t data_len,
+                                       uint8_t *out, size_t out_len);
+
+// The first place of a node in the session's list, from 0 (felica_answer_index); FELICA_NODE_NOT_LISTED where it is not in it.
+// Refusal: 17.
+uint64_t felica_session_node_index(const uint8_t *session, size_t session_len, uint16_t node);
+
+// The session's number (felica_answer_transaction_number).
+// Refusal: 17.
+uint64_t felica_session_transaction_number(const uint8_t *session, size_t session_len);
+
+// How many responses felica_session_apply_response turned away with 10 to 15 since the making (felica_answer_count), at most 65,535.
+// Refusal: 17.
+uint64_t felica_session_turned_away(const uint8_t *session, size_t session_len);
+
+// The session's scheme mark (felica_answer_scheme).
+// Refusal: 17.
+uint64_t felica_session_scheme(const uint8_t *session, size_t session_len);
+
+// Writes the session's transaction ID, FELICA_ID_SIZE bytes.
+// Refusals: 17, 16.
+uint64_t felica_session_transaction_id(const uint8_t *session, size_t session_len,
+                                       uint8_t *out, size_t out_len);
+
+// Writes the session's nodes, FELICA_NODE_SIZE bytes each.
+// Refusals: 17, 16.
+uint64_t felica_session_nodes(const uint8_t *session, size_t session_len,
+                              uint8_t *out, size_t out_len);
 
 #ifdef __cplusplus
 }

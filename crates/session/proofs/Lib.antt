@@ -9,5 +9,6 @@ pub mod NodeLists
 pub mod Nodes
 pub mod Places
 pub mod Plays
+pub mod Records
 pub mod Sessions
 pub mod Tables

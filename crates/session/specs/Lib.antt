@@ -5,5 +5,6 @@ pub mod Derives
 pub mod Entries
 pub mod ServiceCode
 pub mod History
+pub mod Record
 pub mod Session
 pub mod Table

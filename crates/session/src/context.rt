@@ -8,7 +8,8 @@ ghost use Rattle.frame.specs.Guards.{firstOf};
 ghost use Rattle.session.specs.Session.{makeRows, nothing, established, Makes, withNumber, counting, Steps, listedCount, firstPlace, indexIn, index, acceptRows, Receives, receiving, credentialsSize, credentialsOf};
 ghost use Rattle.session.specs.Entries.{nodes as nodeList};
 ghost use Rattle.frame.specs.Outcome.{Meets};
-ghost use Rattle.frame.specs.Scheme.{opening};
+ghost use Rattle.frame.specs.Scheme.{sealing, opening};
+ghost use Rattle.session.specs.Record.{encode, decode, contextOf};
 
 // nodes has node_count nodes of two bytes each, the low byte first. A DES session key is the first 8 bytes of credentials.
 pub struct AuthenticatedContext {
@@ -142,7 +143,7 @@ fn count_turned_away(context: AuthenticatedContext, number: u8) -> Authenticated
 }
 
 // How many nodes a session's list has: at most 64.
-fn listed(node_count: u16) -> usize
+pub(crate) fn listed(node_count: u16) -> usize
     ensures { λ r. ⌜ (r ≡ listedCount «node_count») × (r ≤ 64) ⌝ }
 {
     if node_count < 64 {
@@ -205,6 +206,52 @@ fn open_with(
 {
     let n = credentials_size(scheme);
     frame::decrypt_response(scheme, code, &id, &credentials[0..n], data, out)
+}
+
+// Seals a command with as much of the credentials as the scheme has.
+fn seal_with(
+    scheme: u8,
+    code: u8,
+    number: u16,
+    id: [u8; 6],
+    credentials: [u8; 36],
+    payload: &[u8],
+    out: &mut [u8],
+) -> Answer
+    ensures { λ r. ⌜ Meets (sealing scheme (take (credentialsSize scheme) credentials) code number id (now (payload .entry)) (length (now (out .entry)))) r (now (out .entry)) (now (out .exit)) ⌝ }
+{
+    let n = credentials_size(scheme);
+    frame::encrypt_command(scheme, code, number, &id, &credentials[0..n], payload, out)
+}
+
+// The bytes of a session.
+fn encode_parts(
+    scheme: u8,
+    number: u16,
+    turned_away: u16,
+    node_count: u16,
+    id: [u8; 6],
+    credentials: [u8; 36],
+    nodes: [u8; 128],
+) -> [u8; 178]
+    ensures { λ r. ⌜ (r ≡ encode (contextOf scheme number «turned_away» «node_count» id credentials nodes)) × (decode r ≡ contextOf scheme number «turned_away» «node_count» id credentials nodes) ⌝ }
+{
+    let head = [
+        1u8,
+        scheme,
+        (number % 256) as u8,
+        (number / 256 % 256) as u8,
+        (turned_away % 256) as u8,
+        (turned_away / 256 % 256) as u8,
+        (node_count % 256) as u8,
+        (node_count / 256 % 256) as u8,
+    ];
+    let mut bytes = [0u8; 178];
+    cipher::copy(&head, &mut bytes);
+    cipher::copy(&id, &mut bytes[8..14]);
+    cipher::copy(&credentials, &mut bytes[14..50]);
+    cipher::copy(&nodes, &mut bytes[50..178]);
+    bytes
 }
 
 impl AuthenticatedContext {
@@ -343,5 +390,61 @@ impl AuthenticatedContext {
         let id = self.transaction_id;
         let credentials = self.credentials;
         open_with(self.scheme, code, id, credentials, data, out)
+    }
+
+    // Seals a command with the session's scheme, credentials, ID and number, which is stepped before and by itself.
+    pub fn encrypt_command(self, code: u8, payload: &[u8], out: &mut [u8]) -> Answer
+        ensures { λ r. ⌜ Meets (sealing (self .scheme) (credentialsOf self) code (self .«transaction_number») (self .«transaction_id») (now (payload .entry)) (length (now (out .entry)))) r (now (out .entry)) (now (out .exit)) ⌝ }
+    {
+        let id = self.transaction_id;
+        let credentials = self.credentials;
+        seal_with(
+            self.scheme,
+            code,
+            self.transaction_number,
+            id,
+            credentials,
+            payload,
+            out,
+        )
+    }
+
+    // The session as bytes that a caller keeps.
+    pub fn encode(self) -> [u8; 178]
+        ensures { λ r. ⌜ (r ≡ encode self) × (decode r ≡ self) ⌝ }
+    {
+        let id = self.transaction_id;
+        let credentials = self.credentials;
+        let nodes = self.nodes;
+        encode_parts(
+            self.scheme,
+            self.transaction_number,
+            self.turned_away,
+            self.node_count,
+            id,
+            credentials,
+            nodes,
+        )
+    }
+
+    // The session that a caller kept as bytes.
+    pub fn decode(bytes: [u8; 178]) -> AuthenticatedContext
+        ensures { λ r. ⌜ r ≡ decode bytes ⌝ }
+    {
+        let mut id = [0u8; 6];
+        cipher::copy(&bytes[8..14], &mut id);
+        let mut credentials = [0u8; 36];
+        cipher::copy(&bytes[14..50], &mut credentials);
+        let mut nodes = [0u8; 128];
+        cipher::copy(&bytes[50..178], &mut nodes);
+        AuthenticatedContext {
+            transaction_number: frame::number_of_bytes(bytes[2], bytes[3]),
+            transaction_id: id,
+            scheme: bytes[1],
+            credentials,
+            nodes,
+            node_count: frame::number_of_bytes(bytes[6], bytes[7]),
+            turned_away: frame::number_of_bytes(bytes[4], bytes[5]),
+        }
     }
 }

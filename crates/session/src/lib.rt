@@ -6,6 +6,7 @@ mod challenge;
 mod context;
 mod des;
 mod ffi;
+mod ffi_session;
 mod fixed;
 mod keys;
 mod types;

@@ -1,0 +1,29 @@
+use mathlib.Core.Path.{sym, ap, _∙_}
+use lib.ListN.{replicate}
+use Rattle.cipher.proofs.Copies.{copied}
+use Rattle.session.specs.Record.{decode}
+use borrow.Author.Needs.{needs}
+use Rattle.session.proofs.ffi_session.load.Statement.{statement}
+use Rattle.session.proofs.ffi_session.load.Tie as tie
+use Rattle.session.proofs.ffi_session.load.Reads as reads
+use Rattle.session.proofs.ffi_session.load.Lts as lts
+use Rattle.cipher.proofs.copy.Reads as copy-reads
+use Rattle.session.proofs.context.AuthenticatedContext.decode.Reads as decode-reads
+
+slice-aggregate-copy : tie.Need-slice-aggregate-copy
+slice-aggregate-copy c = search needs
+
+copy-requires : tie.Need-copy-requires
+copy-requires c κs = search needs
+
+decode-requires : tie.Need-decode-requires
+decode-requires c κs = search needs
+
+returns : tie.Need-returns
+returns c =
+    let cp = c .before .before in
+    let st = cp .before .before .before in
+    c .decode .ensures ∙ ap decode (copied (st .args .bytes .now) (replicate 178 0) _ (cp .copy .ensures) (sym (st .pre)))
+
+pub load-spec : {M : Type 1} → statement M
+load-spec = tie.close (tie.spec slice-aggregate-copy copy-requires decode-requires returns)
