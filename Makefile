@@ -1,20 +1,60 @@
-# make demo     prove the library and run the published vectors against it
-# make test     the gate
-# make ctest    the library as C calls it (tests/c/run)
-# make vectors  write the vectors' data anew from NIST's files
-# make bench    speed, as ratios to other libraries in one run
-.PHONY: demo test ctest vectors bench
+# make demo         prove the library, build and run the C example: a dock and a card
+# make rust-demo    the same from Rust
+# make test         the gate
+# make ctest        the library as C calls it (tests/c/run)
+# make examples     the examples with strict warnings, held to what they have to print (tests/examples)
+# make install      archive, header and pkg-config file under PREFIX, in DESTDIR if that is given; make uninstall takes them away
+# make installcheck install to a temporary folder, and build the C example there (tests/install)
+# make run-vectors  prove the ciphers and run the published vectors against them
+# make vectors      write the vectors' data anew from NIST's files
+# make bench        speed, as ratios to other libraries in one run
+.PHONY: demo rust-demo test ctest examples archive install uninstall installcheck run-vectors vectors bench
 
-demo:
-	rt check vectors
+PREFIX = /usr/local
+DESTDIR =
+VERSION := $(shell cat VERSION)
+to = $(DESTDIR)$(PREFIX)
+
+demo: archive
+	@mkdir -p target/examples
+	gcc -std=c99 -Wall -Wextra -pedantic -O2 -Iinclude -o target/examples/dock examples/dock.c target/staticlib/libsession.a
 	@echo
-	@cd crates/vectors/data && ../../../target/bin/vectors
+	@target/examples/dock
+
+rust-demo: archive
+	bash examples/rust/build
+	@echo
+	@target/examples/dock-rust
 
 test:
 	bash .ci/run
 
 ctest:
 	bash tests/c/run
+
+examples:
+	bash tests/examples
+
+archive:
+	bash tests/archive
+
+install: archive
+	install -d $(to)/include $(to)/lib/pkgconfig
+	install -m 644 include/felica_secure.h $(to)/include
+	install -m 644 target/staticlib/libsession.a $(to)/lib
+	sed -e 's|@PREFIX@|$(PREFIX)|' -e 's|@VERSION@|$(VERSION)|' felica_secure.pc.in >$(to)/lib/pkgconfig/felica_secure.pc
+	chmod 644 $(to)/lib/pkgconfig/felica_secure.pc
+
+uninstall:
+	rm -f $(to)/include/felica_secure.h $(to)/lib/libsession.a $(to)/lib/pkgconfig/felica_secure.pc
+
+installcheck:
+	bash tests/install
+
+run-vectors:
+	rt check vectors
+	@echo
+	@cd crates/vectors/data && ../../../target/bin/vectors
 
 vectors:
 	apt-get install -y python3-cryptography python3-cryptography-vectors
