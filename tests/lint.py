@@ -19,6 +19,9 @@ KIT = ("mathlib.", "Prim.", "lib.", "native.", "borrow.", "denote.", "mir.")
 LAYERS = ["cipher", "frame", "session"]
 # how the definitions of both upper crates say what a call answers: words, not operations
 WORDS = ["Outcome", "Tests", "Guards", "Number", "Packed"]
+# how the files that are read for words end
+ENDS = (".md", ".rt", ".antt", ".c", ".h", ".rs", ".py", ".edit", ".in", "Makefile", "NOTICE", "run", "build", "archive", "examples",
+        "install", "check_dock", "check_standins")
 faults = []
 
 
@@ -136,7 +139,7 @@ def crates(top):
 
 # The repository speaks of the product alone.
 def words(top):
-    for path in files(top, (".md", ".rt", ".antt", ".c", ".h", ".py", ".edit", "Makefile", "run", "NOTICE")):
+    for path in files(top, ENDS):
         for number, line in enumerate(text(path).split("\n"), 1):
             if re.search(r"(?<![\w.])/(?:work|farm|root|home)/", line) and not path.endswith(os.path.join("tests", "lint.py")):
                 fault("machine-path", path, number, line.strip()[:80])

@@ -41,6 +41,7 @@ FAULTS = [
     ("unlisted-crate", write("crates/stray/src/lib.rt", "fn f() {}\n")),
     ("empty-stdout", write("crates/vectors/stdout", "\n")),
     ("lower-unfolded", write("crates/frame/proofs/Planted.antt", "use Rattle.cipher.specs.Fips197.{sBox}\n\nf : ℕ\nunfolding sBox\nf = sBox 3\n")),
+    ("machine-path", add("examples/rust/main.rs", "\n// see /%s/somebody/notes\n" % "home")),
     ("machine-path", add("README.md", "\nSee /%s/somebody/notes.\n" % "home")),
 ]
 
