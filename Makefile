@@ -7,7 +7,7 @@
 # make installcheck install to a temporary folder, and build the C example there (tests/install)
 # make run-vectors  prove the ciphers and run the published vectors against them
 # make vectors      write the vectors' data anew from NIST's files
-# make bench        speed, as ratios to other libraries in one run
+# make bench        speed, as ratios to other libraries in one run, and instructions; writes docs/BENCH.md
 .PHONY: demo rust-demo test ctest examples archive install uninstall installcheck run-vectors vectors bench
 
 PREFIX = /usr/local
@@ -61,4 +61,4 @@ vectors:
 	/usr/bin/python3 tests/make_vectors.py
 
 bench:
-	bash bench/run
+	bench/run

@@ -20,6 +20,21 @@ enum row {
     ROW_FOLD,
     ROW_FOLD_BACK,
     ROW_TDES,
+    ROW_AES_DERIVE,
+    ROW_AES_MAKE_1A,
+    ROW_AES_READ_1A,
+    ROW_AES_MAKE_1B,
+    ROW_AES_CHECK_1B,
+    ROW_AES_KEYS,
+    ROW_AES_READER,
+    ROW_AES_CARD,
+    ROW_DES_DERIVE,
+    ROW_DES_MAKE_1A,
+    ROW_DES_READ_1A,
+    ROW_DES_MAKE_1B,
+    ROW_DES_CHECK_1B,
+    ROW_DES_READER,
+    ROW_DES_CARD,
     ROW_AES_SEAL_0,
     ROW_AES_SEAL_16,
     ROW_AES_SEAL_64,
@@ -54,13 +69,37 @@ enum {
     DES_ADDED = 16,
     SEALED = 253,
     ID = 6,
-    // Cipher key, MAC key and Challenge 3C.
+    IDM = 8,
+    // Cipher key, MAC key and Challenge 3C, and where that starts.
     CREDENTIALS = 36,
-    // In front of a result of sealing or opening: a number of 64 bits, as the C functions pack their answers.
+    THIRD = 32,
+    // Derived keys, and AES session keys.
+    DES_DERIVED = 16,
+    AES_DERIVED = 32,
+    SESSION_KEYS = 32,
+    // What a derivation reads: key entries of node 2, algorithm 1, key 16; areas and services of 2 bytes.
+    DES_MARK = 1,
+    AES_MARK = 2,
+    ENTRIES = 128,
+    ENTRY = 19,
+    NODES = 32,
+    NODE = 2,
+    SYSTEM = 0xFFFF,
+    // In front of a result of a C function: a number of 64 bits, as they pack their answers.
     ANSWER = 8,
-    // The answers to a frame whose MAC or ID is wrong.
+    // Some of the answers: a key twice, a key missing, one of the other algorithm only, a wrong MAC or block, a wrong ID.
+    KEY_TWICE = 2,
+    NO_KEY = 4,
+    OTHER_KEY = 5,
     WRONG_MAC = 13,
     WRONG_ID = 14
+};
+
+// Lists of a derivation, as long as they may be.
+struct lists {
+    uint8_t keys[ENTRIES * ENTRY];
+    uint8_t areas[NODES * NODE];
+    uint8_t services[NODES * NODE];
 };
 
 // What an operation reads; each uses the parts that it needs. A DES key is the first 8 bytes.
@@ -73,59 +112,84 @@ struct input {
     uint8_t id[ID];
     uint8_t code;
     uint16_t number;
-    // Set for each row: how much of the text is the payload of a frame, and what an opening opens.
+    uint8_t derived[AES_DERIVED];
+    uint8_t idm[IDM];
+    // Random 1 and random 2, and which of them a challenge is made from.
+    uint8_t randoms[2][AES_BLOCK];
+    int which;
+    struct lists des_lists;
+    struct lists aes_lists;
+    // Set for each row: how much of the text is the payload of a frame, and what another row has made for this one to open, read
+    // or check.
     size_t payload;
-    size_t sealed_n;
-    uint8_t sealed[SEALED];
+    size_t given_n;
+    uint8_t given[SEALED];
 };
 
 // An operation writes its result to out. How long that is, the row says.
 typedef void operation(const struct input *in, uint8_t *out);
 
-// A library, with what it needs before the first operation, and its operation for each row.
+// A library, with what it needs before the first operation, and its operation for each row; NULL where it has none.
 struct contestant {
-    const char *name;
+    const char *version;
     void (*start)(void);
     operation *operations[ROWS];
 };
 
 // The operations of a contestant, by the names that each file gives them.
-#define OPERATIONS                          \
-    {                                       \
-        [ROW_AES] = aes_block,              \
-        [ROW_AES_BACK] = aes_block_back,    \
-        [ROW_AES_CHAIN] = aes_chain,        \
-        [ROW_AES_OFB] = aes_ofb,            \
-        [ROW_AES_CMAC] = aes_cmac,          \
-        [ROW_DES] = des_block,              \
-        [ROW_DES_BACK] = des_block_back,    \
-        [ROW_DES_CHAIN] = des_chain,        \
-        [ROW_CBC] = cbc,                    \
-        [ROW_CBC_BACK] = cbc_back,          \
-        [ROW_FOLD] = fold,                  \
-        [ROW_FOLD_BACK] = fold_back,        \
-        [ROW_TDES] = tdes_block,            \
-        [ROW_AES_SEAL_0] = aes_seal,        \
-        [ROW_AES_SEAL_16] = aes_seal,       \
-        [ROW_AES_SEAL_64] = aes_seal,       \
-        [ROW_AES_SEAL_243] = aes_seal,      \
-        [ROW_AES_OPEN_0] = aes_open,        \
-        [ROW_AES_OPEN_16] = aes_open,       \
-        [ROW_AES_OPEN_64] = aes_open,       \
-        [ROW_AES_OPEN_243] = aes_open,      \
-        [ROW_DES_SEAL_0] = des_seal,        \
-        [ROW_DES_SEAL_16] = des_seal,       \
-        [ROW_DES_SEAL_64] = des_seal,       \
-        [ROW_DES_SEAL_232] = des_seal,      \
-        [ROW_DES_OPEN_0] = des_open,        \
-        [ROW_DES_OPEN_16] = des_open,       \
-        [ROW_DES_OPEN_64] = des_open,       \
-        [ROW_DES_OPEN_232] = des_open,      \
-    }
+#define AES_OPERATIONS                  \
+    [ROW_AES] = aes_block,              \
+    [ROW_AES_BACK] = aes_block_back,    \
+    [ROW_AES_CHAIN] = aes_chain,        \
+    [ROW_AES_OFB] = aes_ofb,            \
+    [ROW_AES_CMAC] = aes_cmac,          \
+    [ROW_AES_DERIVE] = aes_derive,      \
+    [ROW_AES_MAKE_1A] = aes_make_1a,    \
+    [ROW_AES_READ_1A] = aes_read_1a,    \
+    [ROW_AES_MAKE_1B] = aes_make_1b,    \
+    [ROW_AES_CHECK_1B] = aes_check_1b,  \
+    [ROW_AES_KEYS] = aes_keys,          \
+    [ROW_AES_READER] = aes_reader,      \
+    [ROW_AES_CARD] = aes_card,          \
+    [ROW_AES_SEAL_0] = aes_seal,        \
+    [ROW_AES_SEAL_16] = aes_seal,       \
+    [ROW_AES_SEAL_64] = aes_seal,       \
+    [ROW_AES_SEAL_243] = aes_seal,      \
+    [ROW_AES_OPEN_0] = aes_open,        \
+    [ROW_AES_OPEN_16] = aes_open,       \
+    [ROW_AES_OPEN_64] = aes_open,       \
+    [ROW_AES_OPEN_243] = aes_open
+
+#define DES_OPERATIONS                  \
+    [ROW_DES] = des_block,              \
+    [ROW_DES_BACK] = des_block_back,    \
+    [ROW_DES_CHAIN] = des_chain,        \
+    [ROW_CBC] = cbc,                    \
+    [ROW_CBC_BACK] = cbc_back,          \
+    [ROW_FOLD] = fold,                  \
+    [ROW_FOLD_BACK] = fold_back,        \
+    [ROW_TDES] = tdes_block,            \
+    [ROW_DES_DERIVE] = des_derive,      \
+    [ROW_DES_MAKE_1A] = des_make_1a,    \
+    [ROW_DES_READ_1A] = des_read_1a,    \
+    [ROW_DES_MAKE_1B] = des_make_1b,    \
+    [ROW_DES_CHECK_1B] = des_check_1b,  \
+    [ROW_DES_READER] = des_reader,      \
+    [ROW_DES_CARD] = des_card,          \
+    [ROW_DES_SEAL_0] = des_seal,        \
+    [ROW_DES_SEAL_16] = des_seal,       \
+    [ROW_DES_SEAL_64] = des_seal,       \
+    [ROW_DES_SEAL_232] = des_seal,      \
+    [ROW_DES_OPEN_0] = des_open,        \
+    [ROW_DES_OPEN_16] = des_open,       \
+    [ROW_DES_OPEN_64] = des_open,       \
+    [ROW_DES_OPEN_232] = des_open
 
 extern const struct contestant ours;
 extern const struct contestant tomcrypt;
 extern const struct contestant openssl;
+extern const struct contestant openssl_evp;
+// In a library of its own, which is loaded twice (contestants.c).
 extern const struct contestant nettle;
 
 #endif

@@ -1,32 +1,36 @@
-// nettle: DES in portable C. Its AES uses the processor's AES instructions where there are any, unless
-// the variable NETTLE_FAT_OVERRIDE turns them off; it is then assembly with tables.
-#include "peer.h"
+// nettle: DES in portable C. Its AES uses the processor's AES instructions or is assembly with tables: which, is decided where the library
+// is loaded (contestants.c).
+#include "peer_aes.h"
+#include "peer_des.h"
 
 #include <nettle/aes.h>
 #include <nettle/cbc.h>
 #include <nettle/cmac.h>
 #include <nettle/des.h>
 #include <nettle/memxor.h>
-#include <string.h>
+#include <nettle/version.h>
+
+#define TEXT_OF(number) #number
+#define TEXT(number) TEXT_OF(number)
 
 static void start(void)
 {
 }
 
-static void aes_block(const struct input *in, uint8_t *out)
+static void aes_one(const uint8_t *key, const uint8_t *text, uint8_t *out)
 {
     struct aes128_ctx k;
 
-    aes128_set_encrypt_key(&k, in->key);
-    aes128_encrypt(&k, AES_BLOCK, out, in->text);
+    aes128_set_encrypt_key(&k, key);
+    aes128_encrypt(&k, AES_BLOCK, out, text);
 }
 
-static void aes_block_back(const struct input *in, uint8_t *out)
+static void aes_one_back(const uint8_t *key, const uint8_t *text, uint8_t *out)
 {
     struct aes128_ctx k;
 
-    aes128_set_decrypt_key(&k, in->key);
-    aes128_decrypt(&k, AES_BLOCK, out, in->text);
+    aes128_set_decrypt_key(&k, key);
+    aes128_decrypt(&k, AES_BLOCK, out, text);
 }
 
 static void aes_chain(const struct input *in, uint8_t *out)
@@ -66,20 +70,44 @@ static void mode_cmac(const uint8_t *key, const uint8_t *text, size_t n, uint8_t
     cmac_aes128_digest(&k, AES_BLOCK, mac);
 }
 
-static void des_block(const struct input *in, uint8_t *out)
+static void des_one(const uint8_t *key, const uint8_t *text, uint8_t *out)
 {
     struct des_ctx k;
 
-    des_set_key(&k, in->key);
-    des_encrypt(&k, DES_BLOCK, out, in->text);
+    des_set_key(&k, key);
+    des_encrypt(&k, DES_BLOCK, out, text);
 }
 
-static void des_block_back(const struct input *in, uint8_t *out)
+static void des_one_back(const uint8_t *key, const uint8_t *text, uint8_t *out)
 {
     struct des_ctx k;
 
-    des_set_key(&k, in->key);
-    des_decrypt(&k, DES_BLOCK, out, in->text);
+    des_set_key(&k, key);
+    des_decrypt(&k, DES_BLOCK, out, text);
+}
+
+// With two keys the third schedule is a copy of the first.
+static void tdes_setup(const uint8_t *key1, const uint8_t *key2, struct des3_ctx *k)
+{
+    des_set_key(&k->des[0], key1);
+    des_set_key(&k->des[1], key2);
+    k->des[2] = k->des[0];
+}
+
+static void tdes_one(const uint8_t *key1, const uint8_t *key2, const uint8_t *text, uint8_t *out)
+{
+    struct des3_ctx k;
+
+    tdes_setup(key1, key2, &k);
+    des3_encrypt(&k, DES_BLOCK, out, text);
+}
+
+static void tdes_one_back(const uint8_t *key1, const uint8_t *key2, const uint8_t *text, uint8_t *out)
+{
+    struct des3_ctx k;
+
+    tdes_setup(key1, key2, &k);
+    des3_decrypt(&k, DES_BLOCK, out, text);
 }
 
 static void mode_cbc(const uint8_t *key, const uint8_t *text, size_t n, uint8_t *out)
@@ -100,39 +128,8 @@ static void mode_cbc_back(const uint8_t *key, const uint8_t *text, size_t n, uin
     cbc_decrypt(&k, (nettle_cipher_func *)des_decrypt, DES_BLOCK, state, n, out, text);
 }
 
-static void mode_fold(const uint8_t *keys, size_t n, uint8_t *block)
-{
-    struct des_ctx k;
-
-    for (size_t at = 0; at < n; at += DES_BLOCK) {
-        des_set_key(&k, keys + at);
-        des_encrypt(&k, DES_BLOCK, block, block);
-    }
-}
-
-static void mode_fold_back(const uint8_t *keys, size_t n, uint8_t *block)
-{
-    struct des_ctx k;
-
-    for (size_t at = n; at > 0; at -= DES_BLOCK) {
-        des_set_key(&k, keys + at - DES_BLOCK);
-        des_decrypt(&k, DES_BLOCK, block, block);
-    }
-}
-
-// With two keys the third schedule is a copy of the first.
-static void tdes_block(const struct input *in, uint8_t *out)
-{
-    struct des3_ctx k;
-
-    des_set_key(&k.des[0], in->key);
-    des_set_key(&k.des[1], in->key2);
-    k.des[2] = k.des[0];
-    des3_encrypt(&k, DES_BLOCK, out, in->text);
-}
-
 const struct contestant nettle = {
-    "nettle",
+    "nettle " TEXT(NETTLE_VERSION_MAJOR) "." TEXT(NETTLE_VERSION_MINOR),
     start,
-    OPERATIONS,
+    {AES_OPERATIONS, DES_OPERATIONS},
 };

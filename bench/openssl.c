@@ -2,30 +2,31 @@
 // use the processor's AES instructions. They are deprecated in favour of EVP, whose calls cost more
 // than a block; for a comparison of ciphers they are the stronger opponent.
 #define OPENSSL_SUPPRESS_DEPRECATED
-#include "peer.h"
+#include "peer_aes.h"
+#include "peer_des.h"
 
 #include <openssl/aes.h>
 #include <openssl/des.h>
-#include <string.h>
+#include <openssl/opensslv.h>
 
 static void start(void)
 {
 }
 
-static void aes_block(const struct input *in, uint8_t *out)
+static void aes_one(const uint8_t *key, const uint8_t *text, uint8_t *out)
 {
     AES_KEY k;
 
-    AES_set_encrypt_key(in->key, 128, &k);
-    AES_encrypt(in->text, out, &k);
+    AES_set_encrypt_key(key, 128, &k);
+    AES_encrypt(text, out, &k);
 }
 
-static void aes_block_back(const struct input *in, uint8_t *out)
+static void aes_one_back(const uint8_t *key, const uint8_t *text, uint8_t *out)
 {
     AES_KEY k;
 
-    AES_set_decrypt_key(in->key, 128, &k);
-    AES_decrypt(in->text, out, &k);
+    AES_set_decrypt_key(key, 128, &k);
+    AES_decrypt(text, out, &k);
 }
 
 static void aes_chain(const struct input *in, uint8_t *out)
@@ -98,20 +99,42 @@ static DES_cblock *block_of(const uint8_t *bytes)
     return (DES_cblock *)(uintptr_t)bytes;
 }
 
-static void des_block(const struct input *in, uint8_t *out)
+static void run_des(const uint8_t *key, const uint8_t *text, uint8_t *out, int way)
 {
     DES_key_schedule k;
 
-    DES_set_key_unchecked(block_of(in->key), &k);
-    DES_ecb_encrypt(block_of(in->text), block_of(out), &k, DES_ENCRYPT);
+    DES_set_key_unchecked(block_of(key), &k);
+    DES_ecb_encrypt(block_of(text), block_of(out), &k, way);
 }
 
-static void des_block_back(const struct input *in, uint8_t *out)
+static void des_one(const uint8_t *key, const uint8_t *text, uint8_t *out)
 {
-    DES_key_schedule k;
+    run_des(key, text, out, DES_ENCRYPT);
+}
 
-    DES_set_key_unchecked(block_of(in->key), &k);
-    DES_ecb_encrypt(block_of(in->text), block_of(out), &k, DES_DECRYPT);
+static void des_one_back(const uint8_t *key, const uint8_t *text, uint8_t *out)
+{
+    run_des(key, text, out, DES_DECRYPT);
+}
+
+static void run_tdes(const uint8_t *key1, const uint8_t *key2, const uint8_t *text, uint8_t *out, int way)
+{
+    DES_key_schedule k1;
+    DES_key_schedule k2;
+
+    DES_set_key_unchecked(block_of(key1), &k1);
+    DES_set_key_unchecked(block_of(key2), &k2);
+    DES_ecb2_encrypt(block_of(text), block_of(out), &k1, &k2, way);
+}
+
+static void tdes_one(const uint8_t *key1, const uint8_t *key2, const uint8_t *text, uint8_t *out)
+{
+    run_tdes(key1, key2, text, out, DES_ENCRYPT);
+}
+
+static void tdes_one_back(const uint8_t *key1, const uint8_t *key2, const uint8_t *text, uint8_t *out)
+{
+    run_tdes(key1, key2, text, out, DES_DECRYPT);
 }
 
 static void run_cbc(const uint8_t *key, const uint8_t *text, size_t n, uint8_t *out, int way)
@@ -133,38 +156,8 @@ static void mode_cbc_back(const uint8_t *key, const uint8_t *text, size_t n, uin
     run_cbc(key, text, n, out, DES_DECRYPT);
 }
 
-static void mode_fold(const uint8_t *keys, size_t n, uint8_t *block)
-{
-    DES_key_schedule k;
-
-    for (size_t at = 0; at < n; at += DES_BLOCK) {
-        DES_set_key_unchecked(block_of(keys + at), &k);
-        DES_ecb_encrypt(block_of(block), block_of(block), &k, DES_ENCRYPT);
-    }
-}
-
-static void mode_fold_back(const uint8_t *keys, size_t n, uint8_t *block)
-{
-    DES_key_schedule k;
-
-    for (size_t at = n; at > 0; at -= DES_BLOCK) {
-        DES_set_key_unchecked(block_of(keys + at - DES_BLOCK), &k);
-        DES_ecb_encrypt(block_of(block), block_of(block), &k, DES_DECRYPT);
-    }
-}
-
-static void tdes_block(const struct input *in, uint8_t *out)
-{
-    DES_key_schedule k1;
-    DES_key_schedule k2;
-
-    DES_set_key_unchecked(block_of(in->key), &k1);
-    DES_set_key_unchecked(block_of(in->key2), &k2);
-    DES_ecb2_encrypt(block_of(in->text), block_of(out), &k1, &k2, DES_ENCRYPT);
-}
-
 const struct contestant openssl = {
-    "OpenSSL",
+    "OpenSSL " OPENSSL_VERSION_STR,
     start,
-    OPERATIONS,
+    {AES_OPERATIONS, DES_OPERATIONS},
 };

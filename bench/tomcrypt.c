@@ -1,7 +1,7 @@
 // libtomcrypt: portable C throughout, with its own modes.
-#include "peer.h"
+#include "peer_aes.h"
+#include "peer_des.h"
 
-#include <string.h>
 #include <tomcrypt.h>
 
 // The numbers under which libtomcrypt's modes know the ciphers. This AES has no decryption, which
@@ -17,20 +17,20 @@ static void start(void)
     des = register_cipher(&des_desc);
 }
 
-static void aes_block(const struct input *in, uint8_t *out)
+static void aes_one(const uint8_t *key, const uint8_t *text, uint8_t *out)
 {
     symmetric_key k;
 
-    aes_enc_setup(in->key, AES_BLOCK, 0, &k);
-    aes_enc_ecb_encrypt(in->text, out, &k);
+    aes_enc_setup(key, AES_BLOCK, 0, &k);
+    aes_enc_ecb_encrypt(text, out, &k);
 }
 
-static void aes_block_back(const struct input *in, uint8_t *out)
+static void aes_one_back(const uint8_t *key, const uint8_t *text, uint8_t *out)
 {
     symmetric_key k;
 
-    aes_setup(in->key, AES_BLOCK, 0, &k);
-    aes_ecb_decrypt(in->text, out, &k);
+    aes_setup(key, AES_BLOCK, 0, &k);
+    aes_ecb_decrypt(text, out, &k);
 }
 
 static void aes_chain(const struct input *in, uint8_t *out)
@@ -63,20 +63,46 @@ static void mode_cmac(const uint8_t *key, const uint8_t *text, size_t n, uint8_t
     omac_memory(aes, key, AES_BLOCK, text, n, mac, &mac_n);
 }
 
-static void des_block(const struct input *in, uint8_t *out)
+static void des_one(const uint8_t *key, const uint8_t *text, uint8_t *out)
 {
     symmetric_key k;
 
-    des_setup(in->key, DES_BLOCK, 0, &k);
-    des_ecb_encrypt(in->text, out, &k);
+    des_setup(key, DES_BLOCK, 0, &k);
+    des_ecb_encrypt(text, out, &k);
 }
 
-static void des_block_back(const struct input *in, uint8_t *out)
+static void des_one_back(const uint8_t *key, const uint8_t *text, uint8_t *out)
 {
     symmetric_key k;
 
-    des_setup(in->key, DES_BLOCK, 0, &k);
-    des_ecb_decrypt(in->text, out, &k);
+    des_setup(key, DES_BLOCK, 0, &k);
+    des_ecb_decrypt(text, out, &k);
+}
+
+static void tdes_setup(const uint8_t *key1, const uint8_t *key2, symmetric_key *k)
+{
+    uint8_t keys[3 * DES_BLOCK];
+
+    memcpy(keys, key1, DES_BLOCK);
+    memcpy(keys + DES_BLOCK, key2, DES_BLOCK);
+    memcpy(keys + 2 * DES_BLOCK, key1, DES_BLOCK);
+    des3_setup(keys, 3 * DES_BLOCK, 0, k);
+}
+
+static void tdes_one(const uint8_t *key1, const uint8_t *key2, const uint8_t *text, uint8_t *out)
+{
+    symmetric_key k;
+
+    tdes_setup(key1, key2, &k);
+    des3_ecb_encrypt(text, out, &k);
+}
+
+static void tdes_one_back(const uint8_t *key1, const uint8_t *key2, const uint8_t *text, uint8_t *out)
+{
+    symmetric_key k;
+
+    tdes_setup(key1, key2, &k);
+    des3_ecb_decrypt(text, out, &k);
 }
 
 static void mode_cbc(const uint8_t *key, const uint8_t *text, size_t n, uint8_t *out)
@@ -97,40 +123,8 @@ static void mode_cbc_back(const uint8_t *key, const uint8_t *text, size_t n, uin
     cbc_done(&mode);
 }
 
-static void mode_fold(const uint8_t *keys, size_t n, uint8_t *block)
-{
-    symmetric_key k;
-
-    for (size_t at = 0; at < n; at += DES_BLOCK) {
-        des_setup(keys + at, DES_BLOCK, 0, &k);
-        des_ecb_encrypt(block, block, &k);
-    }
-}
-
-static void mode_fold_back(const uint8_t *keys, size_t n, uint8_t *block)
-{
-    symmetric_key k;
-
-    for (size_t at = n; at > 0; at -= DES_BLOCK) {
-        des_setup(keys + at - DES_BLOCK, DES_BLOCK, 0, &k);
-        des_ecb_decrypt(block, block, &k);
-    }
-}
-
-static void tdes_block(const struct input *in, uint8_t *out)
-{
-    symmetric_key k;
-    uint8_t keys[3 * DES_BLOCK];
-
-    memcpy(keys, in->key, DES_BLOCK);
-    memcpy(keys + DES_BLOCK, in->key2, DES_BLOCK);
-    memcpy(keys + 2 * DES_BLOCK, in->key, DES_BLOCK);
-    des3_setup(keys, 3 * DES_BLOCK, 0, &k);
-    des3_ecb_encrypt(in->text, out, &k);
-}
-
 const struct contestant tomcrypt = {
-    "libtomcrypt",
+    "libtomcrypt " SCRYPT,
     start,
-    OPERATIONS,
+    {AES_OPERATIONS, DES_OPERATIONS},
 };
