@@ -51,6 +51,8 @@ enum row {
     ROW_DES_OPEN_16,
     ROW_DES_OPEN_64,
     ROW_DES_OPEN_232,
+    ROW_AES_STEP,
+    ROW_DES_STEP,
     ROWS
 };
 
@@ -87,12 +89,14 @@ enum {
     SYSTEM = 0xFFFF,
     // In front of a result of a C function: a number of 64 bits, as they pack their answers.
     ANSWER = 8,
-    // Some of the answers: a key twice, a key missing, one of the other algorithm only, a wrong MAC or block, a wrong ID.
+    // Some of the answers: a key twice, a key missing, one of the other algorithm only, a wrong MAC or block, a wrong ID, a number that
+    // is not above the session's.
     KEY_TWICE = 2,
     NO_KEY = 4,
     OTHER_KEY = 5,
     WRONG_MAC = 13,
-    WRONG_ID = 14
+    WRONG_ID = 14,
+    NOT_ABOVE = 15
 };
 
 // Lists of a derivation, as long as they may be.
@@ -111,6 +115,7 @@ struct input {
     uint8_t credentials[CREDENTIALS];
     uint8_t id[ID];
     uint8_t code;
+    // A session's number is one less.
     uint16_t number;
     uint8_t derived[AES_DERIVED];
     uint8_t idm[IDM];
@@ -158,7 +163,8 @@ struct contestant {
     [ROW_AES_OPEN_0] = aes_open,        \
     [ROW_AES_OPEN_16] = aes_open,       \
     [ROW_AES_OPEN_64] = aes_open,       \
-    [ROW_AES_OPEN_243] = aes_open
+    [ROW_AES_OPEN_243] = aes_open,      \
+    [ROW_AES_STEP] = aes_step
 
 #define DES_OPERATIONS                  \
     [ROW_DES] = des_block,              \
@@ -183,7 +189,8 @@ struct contestant {
     [ROW_DES_OPEN_0] = des_open,        \
     [ROW_DES_OPEN_16] = des_open,       \
     [ROW_DES_OPEN_64] = des_open,       \
-    [ROW_DES_OPEN_232] = des_open
+    [ROW_DES_OPEN_232] = des_open,      \
+    [ROW_DES_STEP] = des_step
 
 extern const struct contestant ours;
 extern const struct contestant tomcrypt;

@@ -46,7 +46,7 @@ int start_contestants(void)
 
 operation *operation_of(int column, int row)
 {
-    if (column >= WITHOUT && openssl_evp.operations[row] == NULL)
+    if (ours.operations[row] == NULL || (column >= WITHOUT && openssl_evp.operations[row] == NULL))
         return NULL;
     return columns[column].contestant->operations[row];
 }

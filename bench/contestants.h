@@ -27,7 +27,7 @@ extern int columns_n;
 
 // Sets the columns. Answers 0, or 1 where a library cannot be loaded.
 int start_contestants(void);
-// NULL where a column has no such row: with AES instructions there are those of AES alone.
+// NULL where a column has no such row: with AES instructions there are those of AES alone, and none that ours lacks.
 operation *operation_of(int column, int row);
 
 #endif

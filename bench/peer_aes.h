@@ -219,7 +219,8 @@ static void aes_seal(const struct input *in, uint8_t *out)
     put_answer(out, 0, n + AES_ADDED, 0);
 }
 
-static void aes_open(const struct input *in, uint8_t *out)
+// Opens what has a number above this one.
+static void aes_open_above(const struct input *in, int above, uint8_t *out)
 {
     const size_t n = in->given_n - AES_ADDED;
     uint8_t iv[AES_BLOCK];
@@ -235,8 +236,22 @@ static void aes_open(const struct input *in, uint8_t *out)
         put_answer(out, WRONG_MAC, 0, 0);
         return;
     }
+    if ((int)number_at(in->given) <= above) {
+        put_answer(out, NOT_ABOVE, 0, 0);
+        return;
+    }
     memcpy(out + ANSWER, text + AES_BLOCK, n);
     put_answer(out, 0, n, number_at(in->given));
+}
+
+static void aes_open(const struct input *in, uint8_t *out)
+{
+    aes_open_above(in, -1, out);
+}
+
+static void aes_step(const struct input *in, uint8_t *out)
+{
+    aes_open_above(in, in->number - 1, out);
 }
 
 #endif

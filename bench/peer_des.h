@@ -209,7 +209,8 @@ static void des_seal(const struct input *in, uint8_t *out)
     put_answer(out, 0, n + MAC, 0);
 }
 
-static void des_open(const struct input *in, uint8_t *out)
+// Opens what has a number above this one.
+static void des_open_above(const struct input *in, int above, uint8_t *out)
 {
     const size_t n = in->given_n - MAC;
     uint8_t plain[SEALED];
@@ -225,8 +226,22 @@ static void des_open(const struct input *in, uint8_t *out)
         put_answer(out, WRONG_ID, 0, 0);
         return;
     }
+    if ((int)number_at(plain) <= above) {
+        put_answer(out, NOT_ABOVE, 0, 0);
+        return;
+    }
     memcpy(out + ANSWER, plain + 2 + ID, n - 2 - ID);
     put_answer(out, 0, n - 2 - ID, number_at(plain));
+}
+
+static void des_open(const struct input *in, uint8_t *out)
+{
+    des_open_above(in, -1, out);
+}
+
+static void des_step(const struct input *in, uint8_t *out)
+{
+    des_open_above(in, in->number - 1, out);
 }
 
 #endif

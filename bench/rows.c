@@ -63,6 +63,10 @@ const struct row_facts rows[ROWS] = {
                          .given_by = ROW_DES_SEAL_64, .refusal = WRONG_MAC},
     [ROW_DES_OPEN_232] = {"des-open-232", "DES frame, open 232 bytes", ANSWER + 232, .blocks = 1, .payload = 232, .givens = 1,
                           .given_by = ROW_DES_SEAL_232, .refusal = WRONG_MAC},
+    [ROW_AES_STEP] = {"aes-step", "AES session, take a response of 243 bytes", ANSWER + 243, .blocks = 1, .payload = 243, .givens = 1,
+                      .given_by = ROW_AES_SEAL_243, .refusal = WRONG_MAC},
+    [ROW_DES_STEP] = {"des-step", "DES session, take a response of 232 bytes", ANSWER + 232, .blocks = 1, .payload = 232, .givens = 1,
+                      .given_by = ROW_DES_SEAL_232, .refusal = WRONG_MAC},
 };
 
 struct input inputs[INPUTS];
@@ -118,6 +122,7 @@ void fill_inputs(void)
     for (size_t i = 0; i < sizeof inputs; i++)
         bytes[i] = (uint8_t)(next_number() >> 32);
     for (int i = 0; i < INPUTS; i++) {
+        inputs[i].number |= 1;
         name_nodes(&inputs[i].des_lists, DES_MARK);
         name_nodes(&inputs[i].aes_lists, AES_MARK);
     }
