@@ -295,8 +295,7 @@ static void des_open(const struct input *in, uint8_t *out)
     open_frame(DES_MARK, in, in->key, DES_BLOCK, out);
 }
 
-// ---- the session's response step: every call takes the session as it was made. Without these functions in the archive there are no rows.
-#ifdef BENCH_SESSION
+// ---- the session's response step: every call takes the session as it was made.
 static uint8_t aes_sessions[INPUTS][FELICA_SESSION_SIZE];
 static uint8_t des_sessions[INPUTS][FELICA_SESSION_SIZE];
 
@@ -331,14 +330,6 @@ static void des_step(const struct input *in, uint8_t *out)
 {
     step(des_sessions[in - inputs], in, out);
 }
-#else
-#define aes_step NULL
-#define des_step NULL
-
-static void start(void)
-{
-}
-#endif
 
 const struct contestant ours = {
     "",
