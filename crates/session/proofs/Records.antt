@@ -2,13 +2,15 @@
 use mathlib.Core.Path.{_≡_, refl, sym, ap, _∙_}
 use mathlib.Core.Bool.{Bool, true, false, true≢false}
 use mathlib.Core.List.{List, [], _∷_, _++_, append-nil, append-assoc}
-use Prim.Native.Nat.{ℕ, _+_, _*_, _/_, _%_, _≤_, _<_}
+use Prim.Native.Nat.{ℕ, suc, _+_, _*_, _/_, _%_, _≤_, _<_}
 use native.Mathlib.Omega.{arith}
 use borrow.Author.Tests.{eq-eqb, ne-eqb, eqb-true}
-use lib.Dec.{eqb, lit≤}
-use lib.ListN.{length, take, drop, getD, replicate, length-append, drop-of-length-le}
-use lib.Seq.{take-at, drop-at, take-all, getD-drop}
+use lib.Dec.{eqb, ltb, lit≤, lit<}
+use lib.ListN.{length, take, drop, getD, replicate, length-append, length-drop, take-append-drop, drop-of-length-le}
+use lib.Seq.{take-at, drop-at, take-all, getD-drop, drop-cons, drop-drop}
+use Rattle.cipher.specs.Bytes.{Bytes}
 use Rattle.frame.specs.Guards.{firstOf}
+use Rattle.frame.specs.Number.{numberBytes, numberOf}
 use Rattle.frame.specs.Outcome.{Row, choose, decide, refused, accepted, over}
 use Rattle.frame.specs.Packed.{packed}
 use Rattle.frame.specs.Tests.{isnt, either, both}
@@ -16,8 +18,8 @@ use Rattle.frame.proofs.Decides.{numbered, decide-false, first-refuses, first-p
 use Rattle.frame.proofs.Overs.{copied-over}
 use Rattle.frame.proofs.Pieces.{copied-next}
 use Rattle.frame.proofs.Sames.{both-true}
-use Rattle.session.specs.Record.{contextOf, encode, decode, isSession, Call, Tells, Keeps, making, MakesKept}
-use Rattle.session.specs.Session.{makeRows, established}
+use Rattle.session.specs.Record.{contextOf, encode, decode, isSession, Call, Tells, Keeps, answering, callReceive, making, MakesKept}
+use Rattle.session.specs.Session.{makeRows, established, withNumber, withCount, more, counting, receiving, received}
 use Rattle.session.specs.declared.context.AuthenticatedContext.{AuthenticatedContext}
 
 -- ---- when bytes are a session
@@ -149,3 +151,71 @@ module _ (scheme number : ℕ) (id credentials listed : List ℕ) (r : ℕ) (bef
         let h : length before ≤ length after = omega arith in
         let t : drop (length after) before ≡ [] = drop-of-length-le before h in
         record { returns = rw (m, w) (record { answer = a ∙ rw n; output = rw t (sym (append-nil after)) }); again = λ y. e .1 ∙ q }
+
+-- ---- the bytes that a call changes
+
+-- a session's bytes are its eight first, its ID, its credentials and its nodes
+module _ (b : List ℕ) (l : length b ≡ 178) where
+  at : (i : ℕ) → i < 178 → drop i b ≡ getD b i 0 ∷ drop (suc i) b
+  at i h = drop-cons b i 0 (omega arith)
+
+  first-eight : getD b 0 0 ≡ 1 → b ≡ 1 ∷ getD b 1 0 ∷ getD b 2 0 ∷ getD b 3 0 ∷ getD b 4 0 ∷ getD b 5 0 ∷ getD b 6 0 ∷ getD b 7 0 ∷ drop 8 b
+  first-eight version = at 0 (lit< tt) ∙ ap (λ (x : ℕ). x ∷ drop 1 b) version ∙ ap (λ (t : List ℕ). 1 ∷ t) (at 1 (lit< tt) ∙ ap (λ (t : List ℕ). getD b 1 0 ∷ t) (at 2 (lit< tt) ∙ ap (λ (t : List ℕ). getD b 2 0 ∷ t)
+      (at 3 (lit< tt) ∙ ap (λ (t : List ℕ). getD b 3 0 ∷ t) (at 4 (lit< tt) ∙ ap (λ (t : List ℕ). getD b 4 0 ∷ t) (at 5 (lit< tt) ∙ ap (λ (t : List ℕ). getD b 5 0 ∷ t)
+      (at 6 (lit< tt) ∙ ap (λ (t : List ℕ). getD b 6 0 ∷ t) (at 7 (lit< tt))))))))
+
+  rest : take 6 (drop 8 b) ++ take 36 (drop 14 b) ++ take 128 (drop 50 b) ≡ drop 8 b
+  rest =
+      let n : take 128 (drop 50 b) ≡ drop 50 b = take-all 128 (drop 50 b) (rw length-drop (omega arith)) in
+      let k : take 36 (drop 14 b) ++ drop 50 b ≡ drop 14 b = ap (λ (t : List ℕ). take 36 (drop 14 b) ++ t) (sym (drop-drop 36 14 b)) ∙ take-append-drop 36 (drop 14 b) in
+      let i : take 6 (drop 8 b) ++ drop 14 b ≡ drop 8 b = ap (λ (t : List ℕ). take 6 (drop 8 b) ++ t) (sym (drop-drop 6 8 b)) ∙ take-append-drop 6 (drop 8 b) in
+      rw n (append-assoc (take 6 (drop 8 b)) (take 36 (drop 14 b)) (drop 50 b) ∙ rw k i)
+
+  -- two bytes of it
+  module _ (bytes : Bytes b) where
+    low : (i : ℕ) → numberOf (drop i b) % 256 ≡ getD b i 0
+    low i =
+        let h = bytes i in
+        let z : i + 0 ≡ i = omega arith in
+        rw (getD-drop i b 0 0, getD-drop i b 1 0, z) (omega (arith, h))
+
+    high : (i : ℕ) → numberOf (drop i b) / 256 % 256 ≡ getD b (i + 1) 0
+    high i =
+        let h = bytes i in
+        let k = bytes (i + 1) in
+        let z : i + 0 ≡ i = omega arith in
+        rw (getD-drop i b 0 0, getD-drop i b 1 0, z) (omega (arith, h, k))
+
+    module _ (version : getD b 0 0 ≡ 1) where
+      -- what comes back from a call that changes nothing is what was handed over
+      pub encode-decode : encode (decode b) ≡ b
+      unfolding encode decode
+      encode-decode = rw (low 2, high 2, low 4, high 4, low 6, high 6, rest) (sym (first-eight version))
+
+      -- a refusal that is counted changes the two bytes of the count alone
+      pub encode-count : (n : ℕ) → encode (withCount n (decode b)) ≡ take 4 b ++ numberBytes n ++ drop 6 b
+      unfolding encode decode withCount
+      encode-count n =
+          rw (low 2, high 2, low 6, high 6, rest) (sym (ap (λ (t : List ℕ). take 4 t ++ numberBytes n ++ drop 6 t) (first-eight version)))
+
+      -- a new number changes its two bytes alone
+      pub encode-number : (n : ℕ) → encode (withNumber n (decode b)) ≡ take 2 b ++ numberBytes n ++ drop 4 b
+      unfolding encode decode withNumber
+      encode-number n =
+          rw (low 4, high 4, low 6, high 6, rest) (sym (ap (λ (t : List ℕ). take 2 t ++ numberBytes n ++ drop 4 t) (first-eight version)))
+
+counted : (b : List ℕ) (l : length b ≡ 178) (bytes : Bytes b) (v : getD b 0 0 ≡ 1) (n : ℕ) (p : Bool) → encode (choose p (withCount n (decode b)) (decode b)) ≡ choose p (take 4 b ++ numberBytes n ++ drop 6 b) b
+unfolding choose
+counted b l bytes v n true = encode-count b l bytes v n
+counted b l bytes v n false = encode-decode b l bytes v
+
+-- a response that is turned away: of the session's bytes the count's two change, where it is counted, and no other
+pub turned-away-bytes : (b c before after : List ℕ) (r code room : ℕ) (d : List ℕ) → isSession b ≡ true → Bytes b → Keeps (callReceive code d room) b c r before after
+    → (k : ℕ) → receiving (decode b) code d room .number ≡ k → (k ≡ 0 → ⊥)
+    → c ≡ choose (both (ltb 9 k) (ltb k 16)) (take 4 b ++ numberBytes (more (decode b .«turned_away»)) ++ drop 6 b) b
+unfolding callReceive answering received counting choose isSession
+turned-away-bytes b c before after r code room d y bytes keeps k e n =
+    let t = both-true _ _ y in
+    let l = eqb-true (length b) 178 (t .0) in
+    let v = eqb-true (getD b 0 0) 1 (both-true _ _ (t .1) .0) in
+    keeps .session ∙ rw (y, e, ne-eqb k 0 n) (counted b l bytes v (more (decode b .«turned_away»)) (both (ltb 9 k) (ltb k 16)))
