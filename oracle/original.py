@@ -69,6 +69,8 @@ AFTER = {
     "auth2open_aes": "nb",
     "derive": "nnb",
     "check": "",
+    "session": "nnbb",
+    "set": "n",
     "step": "n",
     "index": "n",
     "apply": "nb",
@@ -127,20 +129,35 @@ def answer(original, operation, inputs):
     return (0, *(int(w) if kind == "n" else data(w) for kind, w in zip(fields, words[1:])))
 
 
-class Original:
+class Program:
+    """A program that answers each line with a line. `builder` is the script of oracle/ that builds it and prints its
+    path."""
+
+    def __init__(self, builder, *arguments):
+        path = subprocess.run([os.path.join(HERE, builder)], check=True, stdout=subprocess.PIPE, text=True).stdout
+        self.command = [path.strip(), *arguments]
+        self.start()
+
+    def start(self):
+        self.process = subprocess.Popen(
+            self.command, stdin=subprocess.PIPE, stdout=subprocess.PIPE, text=True, bufsize=1
+        )
+
+    def say(self, line):
+        self.process.stdin.write(line + "\n")
+        return self.process.stdout.readline().rstrip("\n")
+
+
+class Original(Program):
     """The original, running: one command, one answer."""
 
     def __init__(self):
-        path = subprocess.run([os.path.join(HERE, "build")], check=True, stdout=subprocess.PIPE, text=True).stdout
-        self.process = subprocess.Popen(
-            [path.strip()], stdin=subprocess.PIPE, stdout=subprocess.PIPE, text=True, bufsize=1
-        )
+        super().__init__("build")
 
     def ask(self, *fields):
         """What the original says, as it stands."""
         command = " ".join(text(f) for f in fields)
-        self.process.stdin.write(command + "\n")
-        said = self.process.stdout.readline().rstrip("\n")
+        said = self.say(command)
         if not said or said.startswith("panic"):
             raise SystemExit(f"{command}\n    {said}")
         return said

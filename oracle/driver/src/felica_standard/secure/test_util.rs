@@ -120,7 +120,9 @@ fn answered(fields: &mut Fields) -> Result<String, String> {
         "read" => read(fields),
         "check" => check(fields),
         "session_keys" => session_keys(fields),
+        "session" => session(fields),
         "step" => step(fields),
+        "set" => set(fields),
         "index" => index(fields),
         "apply" => apply(fields),
         "keyfree" => keyfree(fields),
@@ -399,6 +401,32 @@ fn session_keys(f: &mut Fields) -> Result<String, String> {
 }
 
 // The session.
+
+/// What a session that was just made says of itself.
+fn session(f: &mut Fields) -> Result<String, String> {
+    let (scheme, number, id) = (f.scheme()?, f.number()?, f.array()?);
+    let (keys, nodes) = (f.credentials(scheme)?, f.nodes()?);
+    f.end()?;
+    let session = AuthenticatedContext::new(number, id, keys).with_nodes(nodes);
+    let mark = match session.scheme() {
+        SecureSessionScheme::Des => 1,
+        SecureSessionScheme::Aes128 => 2,
+    };
+    let number = session.transaction_number();
+    let pairs: Vec<_> = session.nodes().iter().map(|n| n.to_le_bytes()).collect();
+    let (id, nodes) = (text(session.transaction_id()), text(&pairs.concat()));
+    Ok(format!("ok {mark} {number} {id} {nodes}"))
+}
+
+/// The session's number after it was set.
+fn set(f: &mut Fields) -> Result<String, String> {
+    let (number, value) = (f.number()?, f.number()?);
+    f.end()?;
+    let keys = SecureSessionCredentials::Des([0; 8]);
+    let mut session = AuthenticatedContext::new(number, [0; 6], keys);
+    session.set_transaction_number(value);
+    Ok(format!("ok {}", session.transaction_number()))
+}
 
 /// The step's answer, and the session's number after it.
 fn step(f: &mut Fields) -> Result<String, String> {
