@@ -5,6 +5,7 @@ pub mod Challenges
 pub mod Derives
 pub mod Gathers
 pub mod Histories
+pub mod Kept
 pub mod NodeLists
 pub mod Nodes
 pub mod Places

@@ -10,6 +10,7 @@ use Rattle.frame.specs.Outcome.{Outcome, row, choose, decide, accepted, over}
 use Rattle.frame.specs.Packed.{packed, Returns}
 use Rattle.frame.specs.Scheme.{sealing}
 use Rattle.frame.specs.Tests.{isnt, either, both}
+use Rattle.session.specs.History.{Event, step, setting, response}
 use Rattle.session.specs.Session.{makeRows, established, withNumber, stepped, listedCount, index, credentialsOf, receiving, received}
 use Rattle.session.specs.declared.context.AuthenticatedContext.{AuthenticatedContext}
 
@@ -128,3 +129,33 @@ making scheme number id credentials listed room =
 pub record MakesKept (scheme number : ℕ) (id credentials listed : List ℕ) (r : ℕ) (before after : List ℕ) : Type 0 where
   pub returns : Returns (making scheme number id credentials listed (length before)) r before after
   pub again : making scheme number id credentials listed (length before) .number ≡ 0 → decode after ≡ established scheme number id credentials listed
+
+-- ---- a history of calls, each with the bytes that the one before it left
+
+-- an event of a history as a call
+unfoldable pub callOf : Event → AuthenticatedContext → Call
+callOf step = callStep
+callOf (setting n) = callSet n
+callOf (response code d room) = callReceive code d room
+
+-- a call that was made: its answer, the session's bytes and the output after it, the output before it
+pub record Turn : Type 0 where
+  pub event : Event
+  pub answer : ℕ
+  pub bytes : List ℕ
+  pub before : List ℕ
+  pub output : List ℕ
+
+unfoldable pub events : List Turn → List Event
+events [] = []
+events (t ∷ ts) = t .event ∷ events ts
+
+-- the session's bytes at the end
+unfoldable pub lastBytes : List ℕ → List Turn → List ℕ
+lastBytes b [] = b
+lastBytes b (t ∷ ts) = lastBytes (t .bytes) ts
+
+-- each call keeps to its contract; a slice keeps its length
+unfoldable pub Through : List ℕ → List Turn → Type 0
+Through b [] = b ≡ b
+Through b (t ∷ ts) = Keeps (callOf (t .event)) b (t .bytes) (t .answer) (t .before) (t .output) × (length (t .bytes) ≡ length b) × Through (t .bytes) ts
