@@ -5,13 +5,14 @@
 # make differential the original Rust and the library on the same generated calls (oracle/README.md); SEED=, CASES=
 # make differential-test  the same with faults made on purpose: does it notice?
 # make ct           what depends on a secret, by function, under valgrind (tests/ct/run)
+# make fuzz         calls that a fuzzer makes up, for FUZZ_SECONDS (tests/fuzz/run)
 # make examples     the examples with strict warnings, held to what they have to print (tests/examples)
 # make install      archive, header and pkg-config file under PREFIX, in DESTDIR if that is given; make uninstall takes them away
 # make installcheck install to a temporary folder, and build the C example there (tests/install)
 # make run-vectors  prove the ciphers and run the published vectors against them
 # make vectors      write the vectors' data anew from NIST's files
 # make bench        speed, as ratios to other libraries in one run, and instructions; writes docs/BENCH.md
-.PHONY: demo rust-demo test ctest differential differential-test examples archive install uninstall installcheck run-vectors vectors bench ct
+.PHONY: demo rust-demo test ctest differential differential-test examples archive install uninstall installcheck run-vectors vectors bench ct fuzz
 
 SEED = 1
 CASES = 100000
@@ -46,6 +47,9 @@ differential-test:
 
 ct:
 	bash tests/ct/run
+
+fuzz:
+	bash tests/fuzz/run
 
 examples:
 	bash tests/examples
