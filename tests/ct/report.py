@@ -42,7 +42,9 @@ def read_seen(path):
     for error in root.findall("error"):
         top = error.find("stack").find("frame")
         kind = error.findtext("kind")
-        key = top.findtext("fn") or top.findtext("ip"), KINDS.get(kind, kind)
+        # the C library's copy has several names
+        name = re.sub(r"^_*mem(cpy|move).*", "memcpy", top.findtext("fn") or top.findtext("ip"))
+        key = name, KINDS.get(kind, kind)
         places[key].add(top.findtext("ip"))
         times[key] += counts[error.findtext("unique")]
     return {key: Seen(frozenset(places[key]), times[key]) for key in places}
@@ -146,7 +148,8 @@ def main():
     rows, calls = read_expected(), list(read_calls(folder))
     faults = not_called(calls) + list(all_faults(rows, calls))
     text = ["## By function", ""] + list(by_function(rows, calls))
-    text += ["", "## By call", "", "\"600 at 40\": 600 times in the call, at 40 places of the code.", ""] + list(by_call(rows, calls)) + [""]
+    text += ["", "## By call", "", "\"600 at 40\": 600 times in the call, at 40 places of the code.", ""]
+    text += list(by_call(rows, calls)) + [""]
     with open(os.path.join(folder, "report.md"), "w", encoding="utf-8") as f:
         f.write("\n".join(text))
     for fault in faults:

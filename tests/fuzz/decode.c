@@ -136,8 +136,8 @@ static void seal(struct shot *s, unsigned code, uint8_t *id)
         answer = felica_encrypt_authentication2_payload_des(s->in[KEYS].at, 8, plain.at, plain.n, s->in[DATA].at, INPUT_MAX);
     } else {
         code = s->op == AUTH2_OPEN_AES ? 0x43 : code;
-        answer = felica_encrypt_command((uint8_t)scheme, (uint8_t)code, s->number, id, 6, s->in[KEYS].at, keys_size(s->op, scheme), plain.at,
-                                        plain.n, s->in[DATA].at, INPUT_MAX);
+        answer = felica_encrypt_command((uint8_t)scheme, (uint8_t)code, s->number, id, 6, s->in[KEYS].at, keys_size(s->op, scheme),
+                                        plain.at, plain.n, s->in[DATA].at, INPUT_MAX);
     }
     if (felica_answer_number(answer) == 0) {
         s->in[DATA].n = felica_answer_length(answer);

@@ -92,8 +92,8 @@ WRAP(felica_encrypt_authentication2_payload_des, (bytes key, size_t key_n, bytes
 WRAP(felica_derive_auth_keys, (uint8_t mark, bytes keys, size_t keys_n, bytes areas, size_t areas_n, bytes services, size_t services_n,
                                bytes individual, size_t individual_n, uint8_t *out, size_t room))
 {
-    uint64_t answer = __real_felica_derive_auth_keys(mark, keys, keys_n, areas, areas_n, services, services_n, individual, individual_n, out,
-                                                     room);
+    uint64_t answer = __real_felica_derive_auth_keys(mark, keys, keys_n, areas, areas_n, services, services_n, individual, individual_n,
+                                                     out, room);
 
     return has("refusal-with-a-length") && felica_answer_number(answer) == 5 ? answer | (uint64_t)1 << 16 : answer;
 }
@@ -124,9 +124,10 @@ WRAP(felica_verify_challenge2b, (uint8_t scheme, bytes keys, size_t keys_n, byte
 WRAP(felica_verify_challenge1b, (uint8_t scheme, bytes keys, size_t keys_n, bytes idm, size_t idm_n, bytes third, size_t third_n,
                                  bytes random_1, size_t random_1_n, bytes challenge, size_t n))
 {
-    uint64_t answer = __real_felica_verify_challenge1b(scheme, keys, keys_n, idm, idm_n, third, third_n, random_1, random_1_n, challenge, n);
+    uint64_t answer;
     uint8_t wanted[16];
 
+    answer = __real_felica_verify_challenge1b(scheme, keys, keys_n, idm, idm_n, third, third_n, random_1, random_1_n, challenge, n);
     if (!has("compares-7-bytes") || answer != 13 || n != 8) {
         return answer;
     }

@@ -140,7 +140,8 @@ static void opens_as_response(const struct shot *s, const struct result *r)
 static void seals_as_command(const struct shot *s, const struct result *r)
 {
     uint8_t back[300];
-    uint64_t answer = felica_session_encrypt_command(WHOLE(r->session), s->code, r->out, felica_answer_length(r->answer), back, sizeof back);
+    size_t n = felica_answer_length(r->answer);
+    uint64_t answer = felica_session_encrypt_command(WHOLE(r->session), s->code, r->out, n, back, sizeof back);
 
     check(answer == (uint64_t)s->in[DATA].n << 16 && memcmp(back, s->in[DATA].at, s->in[DATA].n) == 0, "what was opened seals to others");
 }
