@@ -95,18 +95,10 @@ WRAP(felica_derive_auth_keys, (uint8_t mark, bytes keys, size_t keys_n, bytes ar
     uint64_t answer = __real_felica_derive_auth_keys(mark, keys, keys_n, areas, areas_n, services, services_n, individual, individual_n,
                                                      out, room);
 
-    return has("refusal-with-a-length") && felica_answer_number(answer) == 5 ? answer | (uint64_t)1 << 16 : answer;
-}
-
-WRAP(felica_decrypt_challenge1a, (uint8_t scheme, bytes keys, size_t keys_n, bytes idm, size_t idm_n, bytes challenge, size_t n,
-                                  uint8_t *out, size_t room))
-{
-    uint64_t answer = __real_felica_decrypt_challenge1a(scheme, keys, keys_n, idm, idm_n, challenge, n, out, room);
-
-    if (has("changes-an-input") && answer > 255 && idm[0] < 0x20) {
-        ((uint8_t *)(uintptr_t)keys)[keys_n - 1] ^= 1;
+    if (has("changes-an-input") && felica_answer_number(answer) == 0 && areas_n == 4) {
+        ((uint8_t *)(uintptr_t)areas)[3] ^= 1;
     }
-    return answer;
+    return has("refusal-with-a-length") && felica_answer_number(answer) == 5 ? answer | (uint64_t)1 << 16 : answer;
 }
 
 WRAP(felica_verify_challenge2b, (uint8_t scheme, bytes keys, size_t keys_n, bytes idm, size_t idm_n, bytes random_2, size_t random_2_n,
