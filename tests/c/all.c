@@ -29,6 +29,8 @@ int all_parts(int files, char **paths)
     damages();
     lengths();
     crossings();
+    sessions();
+    histories();
     printf("%lu calls, %lu stored answers\n", calls(), cases);
     return 0;
 }

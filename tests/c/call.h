@@ -1,7 +1,9 @@
 // One call of the library, with what has to hold whatever it is about:
 // - no byte outside the output changes, no input changes;
+// - a session is after the call as the call says, to the byte;
 // - a refusal is one of the function's own, changes no byte of the output, and every other bit of its answer is 0, but for the node with 4;
-// - an acceptance changes no byte of the output behind its length; bits 48 to 63 of its answer are 0, and bits 8 to 15 but for derivation.
+// - an acceptance changes no byte of the output behind its length; bits 48 to 63 of its answer are 0, and bits 8 to 15 but for derivation
+//   and a session's scheme.
 #ifndef CALL_H
 #define CALL_H
 
@@ -26,6 +28,17 @@ enum operation {
     MAKE_2B,
     CHECK_2B,
     SESSION_KEYS,
+    MAKE_SESSION,
+    STEP,
+    SET,
+    SEAL_IN,
+    APPLY,
+    INDEX,
+    TELL_NUMBER,
+    TELL_COUNT,
+    TELL_SCHEME,
+    GIVE_ID,
+    GIVE_NODES,
     OPERATIONS
 };
 
@@ -34,6 +47,7 @@ struct call {
     enum operation operation;
     uint8_t scheme;
     uint8_t code;
+    // of INDEX the node
     uint16_t number;
     // a transaction ID; of a challenge the IDm
     struct text id;
@@ -48,6 +62,11 @@ struct call {
     struct text areas;
     struct text services;
     struct text individual;
+    // of the making of a session alone
+    struct text nodes;
+    // of a call with a session: its bytes, and those after the call where it changes
+    struct text session;
+    struct text after;
 };
 
 // The limits of what can be passed.
@@ -65,11 +84,17 @@ void refuses(const struct call *c, uint64_t refusal);
 uint64_t missing(unsigned node);
 
 // The call is accepted with this transaction number and n bytes, in an output of n bytes and in larger ones, and turned down with 16 in
-// smaller ones. The bytes are `wanted`; where that is NULL any, but the same each time. They are copied to `got` if that is not NULL.
+// smaller ones, which change no session. The bytes are `wanted`; where that is NULL any, but the same each time. They are copied to `got` if that is not NULL.
 void gives(const struct call *c, unsigned transaction, size_t n, const uint8_t *wanted, uint8_t *got);
 
 // The same for a derivation, which is accepted with a scheme.
 void derives(const struct call *c, unsigned scheme, size_t n, const uint8_t *wanted, uint8_t *got);
+
+// A session of these bytes is made, in an output of exactly their size. In any other it is turned down with 17.
+void makes(const struct call *c, const uint8_t *wanted);
+
+// The call, which has no output, is accepted with this answer, wherever the buffers stand.
+void tells(const struct call *c, uint64_t answer);
 
 // One call with the buffers at one place, for what is tried too often for more: an answer, and its bytes if it has a length.
 void answers(const struct call *c, size_t room, unsigned place, uint64_t answer, const uint8_t *wanted);

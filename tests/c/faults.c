@@ -1,7 +1,9 @@
-// The test of the test: the library with a fault, for each of the faults below, and the test has to notice. The linker puts the functions
-// here in the place of the library's (--wrap), which stay reachable under the names that start with __real_.
+// The test of the test: the library with a fault, for each of those in faults.h, and the test has to notice. The linker puts the functions
+// here and in faults_session.c in the place of the library's (--wrap), which stay reachable under the names that start with __real_.
 //
 //     faults [-v] FILES     FILES are the stored answers; -v says for each fault what was noticed
+#include "check.h"
+#include "faults.h"
 #include "parts.h"
 
 #include "../../include/felica_secure.h"
@@ -11,92 +13,10 @@
 #include <sys/wait.h>
 #include <unistd.h>
 
-#define FAULTS(F) \
-    F(NONE, "none") \
-    F(BIT, "sealing: the last byte has its lowest bit changed") \
-    F(BEHIND, "sealing: writes the byte behind what it answers") \
-    F(PAST, "sealing: writes the byte behind the output") \
-    F(BEFORE, "sealing: writes the byte before the output") \
-    F(CLEARS, "sealing: a refusal writes the first byte of the output") \
-    F(REFUSAL_LENGTH, "sealing: a refusal has a length") \
-    F(REFUSAL_NUMBER, "sealing: a refusal has a transaction number") \
-    F(HIGH_BIT, "sealing: bit 48 of the answer is set") \
-    F(INPUT, "sealing: changes the payload") \
-    F(READS_PAST, "sealing: reads the byte behind the payload") \
-    F(READS_BEFORE, "sealing: reads the byte before the payload") \
-    F(READS_NULL, "sealing: reads an ID that is not there") \
-    F(ROOM_FIRST, "sealing: 16 before 12") \
-    F(ROOM_SHORT, "sealing: content with an output that is one short") \
-    F(ROOM_16_BITS, "sealing: cuts the output's size to 16 bits") \
-    F(LENGTH_32_BITS, "sealing: cuts the payload's length to 32 bits") \
-    F(MARK_3, "sealing: takes mark 3 as AES") \
-    F(LONG_ID, "sealing: takes an ID of 7 bytes") \
-    F(STATE, "sealing: the 5,000th acceptance is another") \
-    F(BOTH_WAYS, "sealing and opening: both under another code") \
-    F(LENGTH_BYTE, "response frame: the length byte does not count itself") \
-    F(CODE, "response frame: the code is another") \
-    F(FRONT, "response frame: a refusal writes the length byte") \
-    F(ACCEPTS, "opening: 0 in the place of 13") \
-    F(LEAKS, "opening: writes a byte before the MAC is checked") \
-    F(ID_FIRST, "opening: 14 in the place of 13") \
-    F(ROOM_BEFORE_MAC, "opening: 16 before 13") \
-    F(SWAPPED, "opening: the transaction number has its bytes exchanged") \
-    F(LIMIT, "opening: 253 bytes are too many") \
-    F(TRIMS_8, "trimmed opening: a last byte of 8 drops 8 bytes") \
-    F(TRIMS_NOT, "trimmed opening: drops nothing") \
-    F(FORECAST_LESS, "forecast: one less for 17 bytes") \
-    F(FORECAST_32_BITS, "forecast: cuts the length to 32 bits") \
-    F(AUTH2_LIMIT, "Authentication 2, DES, sealing: 240 bytes are too many") \
-    F(AUTH2_8, "Authentication 2, DES, opening: accepts 8 bytes") \
-    F(AUTH2_CODE, "Authentication 2, AES: under code 0x13") \
-    F(PACKAGE_EMPTY, "package: accepts an empty one") \
-    F(PACKAGE_LIMIT, "package: 4,096 bytes are too many") \
-    F(PACKAGE_MAC, "package: the last block is the one before it") \
-    F(KEYS_CUT, "derivation: takes a key list with a part of an entry") \
-    F(LAST_ALGORITHM, "derivation: does not look at the last entry's algorithm") \
-    F(INDIVIDUAL_8, "derivation: takes an individual key of 8 bytes as none") \
-    F(INDIVIDUAL_ZEROS, "derivation: takes sixteen zeros as no individual key") \
-    F(DERIVE_MARK_3, "derivation: takes mark 3 as chosen by keys") \
-    F(KEYS_128, "derivation: 128 keys are too many") \
-    F(SERVICES_32, "derivation: 32 services are too many") \
-    F(TWICE_FIRST, "derivation: 2 before 1") \
-    F(TWICE_NOT, "derivation: takes two keys of a node, where the last entry is one") \
-    F(EMPTY_DES, "derivation: 3 in the place of 7") \
-    F(NO_NODE, "derivation: 4 without the node") \
-    F(NODE_SWAPPED, "derivation: 4 with the node's bytes exchanged") \
-    F(NODE_WITH_5, "derivation: 5 with a node") \
-    F(NO_SCHEME, "derivation: an acceptance without the scheme") \
-    F(FALLS_BACK, "derivation, chosen by keys: DES where AES lacks a key") \
-    F(DES_PREFERRED, "derivation, chosen by keys: DES before AES") \
-    F(SERVICES_FIRST, "derivation: services before areas") \
-    F(SYSTEM_LAST, "derivation, DES: the system's 4 after those of areas and services") \
-    F(DERIVE_ROOM_FIRST, "derivation: 16 before 4") \
-    F(DERIVE_LEAKS, "derivation: 16 with a byte written") \
-    F(DERIVE_READS, "derivation: reads the byte behind the services") \
-    F(GROUP_LAST, "derivation: the two keys exchanged") \
-    F(BETA_1A, "1A: both ends under beta") \
-    F(THIRD_SHORT, "1B, AES: both ends without the last byte of Challenge 3C") \
-    F(THIRD_NONE, "2A, DES: takes a Challenge 3C of 0 bytes") \
-    F(CHECK_7, "1B: 7 bytes are compared") \
-    F(CHECK_NOT, "2B: 0 in the place of 13") \
-    F(CHECK_LENGTH, "2B: takes a challenge that is too long") \
-    F(IDM_9, "1A: takes an IDm of 9 bytes") \
-    F(MARK_0, "2B: takes mark 0 as DES") \
-    F(BLOCK_FIRST, "2A: 16 with a byte written") \
-    F(BLOCK_BEHIND, "reading 2A, DES: writes the ninth byte") \
-    F(RANDOM_PAST, "2B: reads the byte behind random 2") \
-    F(KEYS_CHANGED, "reading 1A: changes the derived keys") \
-    F(ROOM_BEFORE_MARK, "1B: 16 before 17") \
-    F(SESSION_SWAPPED, "AES session keys: MAC key before cipher key") \
-    F(SESSION_17, "AES session keys: takes a random 2 of 17 bytes") \
-    F(SESSION_16, "AES session keys: content with an output of 16 bytes")
-
-#define NAME(name, what) name,
 #define WHAT(name, what) what,
-enum { FAULTS(NAME) COUNT };
 static const char *const faults[] = {FAULTS(WHAT)};
 
-static int fault;
+int fault;
 
 // ---- sealing
 
@@ -654,6 +574,11 @@ static int noticed(int which, int files, char **paths, char *said, size_t n)
         close(ends[0]);
         if (dup2(ends[1], STDERR_FILENO) < 0 || freopen("/dev/null", "w", stdout) == NULL) {
             _exit(0);
+        }
+        // first the part that can notice it: the others take longer
+        if (which >= SESSION_FAULTS) {
+            watch_faults();
+            sessions();
         }
         _exit(all_parts(files, paths));
     }

@@ -11,16 +11,49 @@
 // A length that would be a good one if it were cut to 32 bits.
 #define OVER ((size_t)0x100000000u)
 
+// Of a session each length, and what the answers leave of it.
+static void sessions_over(const uint8_t *big, uint8_t *out)
+{
+    const uint8_t *id = sample(1, 6).at, *key = sample(2, 8).at;
+    uint8_t *read_only = (uint8_t *)(uintptr_t)big;
+    uint8_t session[178];
+    size_t n = OVER + 178;
+
+    check(felica_session_new(1, 5, big, OVER + 6, key, 8, id, 2, out, 178) == 17, "ID, new session");
+    check(felica_session_new(1, 5, id, 6, big, OVER + 8, id, 2, out, 178) == 17, "credentials, new session");
+    check(felica_session_new(1, 5, id, 6, key, 8, big, OVER + 2, out, 178) == 1, "nodes, new session");
+    check(felica_session_new(1, 5, id, 6, key, 8, big, OVER + 1, out, 178) == 17, "nodes and a half, new session");
+    check(felica_session_new(1, 5, id, 6, key, 8, id, 2, read_only, n) == 17, "new session");
+    check(felica_session_increment_transaction_number(read_only, n) == 17, "session, step");
+    check(felica_session_set_transaction_number(read_only, n, 1) == 17, "session, set");
+    check(felica_session_encrypt_command(big, n, 0, id, 6, out, 5000) == 17, "session, sealing");
+    check(felica_session_apply_response(read_only, n, 0, id, 6, out, 5000) == 17, "session, response");
+    check(felica_session_node_index(big, n, 0) == 17, "session, index");
+    check(felica_session_transaction_number(big, n) == 17, "session, number");
+    check(felica_session_turned_away(big, n) == 17, "session, count");
+    check(felica_session_scheme(big, n) == 17, "session, scheme");
+    check(felica_session_transaction_id(big, n, out, 5000) == 17, "session, ID");
+    check(felica_session_nodes(big, n, out, 5000) == 17, "session, nodes");
+
+    check(felica_session_new(1, 5, id, 6, key, 8, id, 2, session, 178) == (uint64_t)178 << 16, "a session");
+    check(felica_session_encrypt_command(session, 178, 0, big, OVER + 16, out, 5000) == 12, "payload, session");
+    check(felica_session_apply_response(session, 178, 0, big, OVER + 16, out, 5000) == 12, "response, session");
+    check(felica_session_turned_away(session, 178) == 1 << 16, "count");
+}
+
 // Memory that is there but costs nothing as long as nobody touches it. Nothing here may be read past its first page, nor written.
 void huge(void)
 {
     size_t n = OVER + 4096;
-    const uint8_t *big = mmap(NULL, n, PROT_READ, MAP_PRIVATE | MAP_ANONYMOUS | MAP_NORESERVE, -1, 0);
+    uint8_t *big = mmap(NULL, n, PROT_READ | PROT_WRITE, MAP_PRIVATE | MAP_ANONYMOUS | MAP_NORESERVE, -1, 0);
     const uint8_t *id = sample(1, 6).at, *key = sample(2, 8).at, *credentials = sample(3, 36).at;
     uint8_t out[5000], before[5000];
 
     part("lengths over 32 bits");
     check(big != MAP_FAILED, "mmap");
+    // the version and a mark of a session
+    big[0] = big[1] = 1;
+    check(mprotect(big, n, PROT_READ) == 0, "mprotect");
     memcpy(before, sample(4, sizeof before).at, sizeof before);
     memcpy(out, before, sizeof before);
 
@@ -71,6 +104,7 @@ void huge(void)
     check(felica_verify_challenge2b(1, credentials, 16, key, 8, key, 8, big, OVER + 8) == 17, "2B, checking it");
     check(felica_derive_secure_session_keys(big, OVER + 16, out, 5000) == 17, "random 2, session keys");
 
+    sessions_over(big, out);
     check(memcmp(out, before, sizeof before) == 0, "the output changed");
-    check(munmap((void *)(uintptr_t)big, n) == 0, "munmap");
+    check(munmap(big, n) == 0, "munmap");
 }

@@ -26,6 +26,10 @@ void crossings(void);
 void challenges(void);
 // Both ends of an authentication, from derivation to a sealed command and its response.
 void agreements(void);
+// Sessions: bytes that are none; making, stepping, sealing, opening, telling; orders of refusals; the count up to its end.
+void sessions(void);
+// Random calls with a session, right and wrong responses; two ends with a session each.
+void histories(void);
 // The stored answers of the original Rust, one file. stored_all_seen() then fails where an operation had no case.
 void stored(const char *path);
 unsigned long stored_all_seen(void);
