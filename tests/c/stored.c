@@ -4,6 +4,8 @@
 #include "chains.h"
 #include "check.h"
 #include "layout.h"
+#include "records.h"
+#include "seals.h"
 
 #include "../../include/felica_secure.h"
 
@@ -19,9 +21,9 @@ struct form {
     const char *which;
     enum operation operation;
     // what the inputs are: scheme or mark, code, number, ID or IDm, keys or credentials, data, Challenge 3C, x for what is checked, areas,
-    // v for services, p for an individual key, - for what the C function does not take
+    // v for services, p for an individual key, l for a session's nodes, - for what the C function does not take
     const char *inputs;
-    // what stands behind the number: transaction number, node, mark, bytes
+    // what stands behind the number: transaction number, node, mark, index, bytes
     const char *values;
 };
 
@@ -43,6 +45,9 @@ static const struct form forms[] = {
     {"check", "1b", CHECK_1B, "sik3dx", ""},
     {"check", "2b", CHECK_2B, "sik-dx", ""},
     {"session_keys", NULL, SESSION_KEYS, "--d", "b"},
+    {"step", NULL, STEP, "n", "t"},
+    {"index", NULL, INDEX, "ln", "i"},
+    {"apply", NULL, APPLY, "nikcd", "tb"},
 };
 
 #define FORMS (sizeof forms / sizeof forms[0])
@@ -109,12 +114,19 @@ static void forecast(const struct call *c, unsigned number, size_t n)
 // The layouts as this test has them are the original's.
 static void as_written_here(const struct call *c, uint64_t answer, struct text wanted)
 {
-    uint8_t bytes[32];
+    uint8_t bytes[32], sealed[256];
 
     if (c->operation == DERIVE) {
         struct derived d = derivation_of(c);
 
         check(d.answer == answer && (wanted.n == 0 || memcmp(d.bytes, wanted.at, wanted.n) == 0), "a stored derivation is not this test's");
+    } else if (c->operation == SEAL && answer % 256 == 0) {
+        check(seal_of(c, sealed) == wanted.n && memcmp(sealed, wanted.at, wanted.n) == 0, "a stored sealing is not this test's");
+    } else if (c->operation == OPEN && answer % 256 != FELICA_BAD_MARK_OR_LENGTH) {
+        struct opened o = opening_of(c);
+
+        check(o.number == answer % 256 && o.transaction == answer >> 32 && o.n == wanted.n && memcmp(o.bytes, wanted.at, o.n) == 0,
+              "a stored opening is not this test's");
     } else if (answer % 256 == 0 && wanted.n != 0 && c->operation >= MAKE_1A && c->operation != READ_1A && c->operation != READ_2A) {
         if (c->operation == SESSION_KEYS) {
             session_keys_of(c->data.at, bytes);
@@ -158,6 +170,9 @@ static void take_input(struct call *c, char input, char *field)
     case 'p':
         c->individual = bytes_of(field);
         break;
+    case 'l':
+        c->nodes = bytes_of(field);
+        break;
     case 'd':
         c->data = bytes_of(field);
         break;
@@ -166,12 +181,109 @@ static void take_input(struct call *c, char input, char *field)
     }
 }
 
+// What a case says of its answer.
+struct values {
+    unsigned number, transaction, node, mark, index;
+    struct text bytes;
+};
+
+static struct values values_of(const char *values, char **fields)
+{
+    struct values v;
+
+    memset(&v, 0, sizeof v);
+    v.number = (unsigned)number_of(*fields++, 17);
+    for (; *values != 0; values++, fields++) {
+        if (*values == 't') {
+            v.transaction = (unsigned)number_of(*fields, 65535);
+        } else if (*values == 'n') {
+            v.node = (unsigned)number_of(*fields, 65535);
+        } else if (*values == 'm') {
+            v.mark = (unsigned)number_of(*fields, 2);
+        } else if (*values == 'i') {
+            v.index = (unsigned)number_of(*fields, 64);
+        } else {
+            v.bytes = bytes_of(*fields);
+        }
+    }
+    check(v.number == FELICA_KEY_MISSING || v.node == 0, "a stored node without 4");
+    check(v.number == 0 || (v.transaction == 0 && v.mark == 0 && v.index == 0 && v.bytes.n == 0),
+          "a stored refusal with more than a number");
+    return v;
+}
+
+// A session with what the case has, and the seed's for the rest.
+static struct session session_for(const struct call *c, unsigned scheme)
+{
+    struct session s = session_of(scheme, 800, 2);
+
+    if (c->operation == INDEX) {
+        memset(s.nodes, 0, sizeof s.nodes);
+        memcpy(s.nodes, c->nodes.at, c->nodes.n < sizeof s.nodes ? c->nodes.n : sizeof s.nodes);
+        s.listed = (unsigned)c->nodes.n / 2;
+        return s;
+    }
+    s.number = c->number;
+    if (c->operation == APPLY) {
+        memcpy(s.id, c->id.at, 6);
+        memcpy(s.credentials, c->credentials.at, 8);
+    }
+    return s;
+}
+
+// The session is made, then called. The answer to an index is that of making, where this is turned down.
+static void session_case(struct call c, const struct values *v, unsigned scheme)
+{
+    struct session s = session_for(&c, scheme);
+    struct call making = making_of(&s);
+    uint8_t before[RECORD], after[RECORD];
+
+    if (c.operation == INDEX && v->number != 0) {
+        making.nodes = c.nodes;
+        refuses_in(&making, RECORD, v->number);
+        return;
+    }
+    write_session(&s, before);
+    makes(&making, before);
+    s.number = v->number == 0 && c.operation != INDEX ? v->transaction : s.number;
+    s.turned = c.operation == APPLY && v->number != 0;
+    write_session(&s, after);
+    c.session = text_of(before, RECORD);
+    c.after = text_of(after, RECORD);
+    if (v->number != 0) {
+        refuses(&c, v->number);
+    } else if (c.operation == INDEX) {
+        tells(&c, (uint64_t)v->index << 16);
+    } else {
+        gives(&c, v->transaction, v->bytes.n, v->bytes.at, NULL);
+    }
+}
+
+static void plain_case(const struct call *c, const struct values *v)
+{
+    uint64_t node = (uint64_t)v->node << 32, mark = (uint64_t)v->mark << 8, number = (uint64_t)v->transaction << 32;
+
+    if (v->number != 0) {
+        refuses(c, v->number | node);
+    } else if (c->operation == DERIVE) {
+        derives(c, v->mark, v->bytes.n, v->bytes.at, NULL);
+    } else {
+        gives(c, v->transaction, v->bytes.n, v->bytes.at, NULL);
+    }
+    as_written_here(c, v->number | node | number | (uint64_t)v->bytes.n << 16 | mark, v->bytes);
+    if (c->operation == OPEN && c->scheme == FELICA_SCHEME_DES) {
+        trimmed(*c, v->number, v->transaction, v->bytes);
+    }
+    if (c->operation == SEAL) {
+        forecast(c, v->number, v->bytes.n);
+    }
+}
+
 static void run_case(const struct form *f, char **fields, int count)
 {
     struct call c;
+    struct values v;
     const char *each;
-    unsigned number, transaction = 0, node = 0, mark = 0;
-    struct text wanted = text_of(NULL, 0);
     int at = f->which == NULL ? 1 : 2;
 
     memset(&c, 0, sizeof c);
@@ -180,37 +292,16 @@ static void run_case(const struct form *f, char **fields, int count)
     for (each = f->inputs; *each != 0; each++) {
         take_input(&c, *each, fields[at++]);
     }
-    number = (unsigned)number_of(fields[at++], 17);
-    for (each = f->values; *each != 0; each++) {
-        char *field = fields[at++];
-
-        if (*each == 't') {
-            transaction = (unsigned)number_of(field, 65535);
-        } else if (*each == 'n') {
-            node = (unsigned)number_of(field, 65535);
-        } else if (*each == 'm') {
-            mark = (unsigned)number_of(field, 2);
-        } else {
-            wanted = bytes_of(field);
-        }
-    }
+    v = values_of(f->values, fields + at);
     seen[f - forms][c.scheme <= 2 ? c.scheme : 0]++;
-
-    check(number == FELICA_KEY_MISSING || node == 0, "a stored node without 4");
-    if (number != 0) {
-        check(transaction == 0 && mark == 0 && wanted.n == 0, "a stored refusal with more than a number");
-        refuses(&c, number | (uint64_t)node << 32);
-    } else if (f->operation == DERIVE) {
-        derives(&c, mark, wanted.n, wanted.at, NULL);
-    } else {
-        gives(&c, transaction, wanted.n, wanted.at, NULL);
+    if (f->operation < MAKE_SESSION) {
+        plain_case(&c, &v);
+        return;
     }
-    as_written_here(&c, number | (uint64_t)node << 32 | (uint64_t)wanted.n << 16 | (uint64_t)mark << 8, wanted);
-    if (f->operation == OPEN && c.scheme == FELICA_SCHEME_DES) {
-        trimmed(c, number, transaction, wanted);
-    }
-    if (f->operation == SEAL) {
-        forecast(&c, number, wanted.n);
+    session_case(c, &v, FELICA_SCHEME_DES);
+    // step and index are of no scheme
+    if (f->operation != APPLY) {
+        session_case(c, &v, FELICA_SCHEME_AES128);
     }
 }
 
