@@ -1,5 +1,5 @@
 // The header by itself, as C99 and as C++11: included twice, its constants against docs/NUMBERS.md, its accessors, and a call of each
-// function, so that C++ too finds it in the archive.
+// function, so that C++ too finds it in the archive. That the constants are what the library goes by: constants.c.
 #include "../../include/felica_secure.h"
 #include "../../include/felica_secure.h"
 
@@ -51,13 +51,38 @@ FACT(authentication2, FELICA_AUTHENTICATION2_PADDED_MAX == 240);
 FACT(sealed, FELICA_SEALED_MAX == 253);
 FACT(frame, FELICA_FRAME_MAX == 255);
 FACT(package, FELICA_PACKAGE_MAX == 4096);
+FACT(session, FELICA_SESSION_SIZE == 178);
+FACT(version, FELICA_SESSION_VERSION == 1);
+FACT(session_nodes, FELICA_SESSION_NODES_MAX == 64);
+FACT(not_listed, FELICA_NODE_NOT_LISTED == 64);
 
 static int accessors(void)
 {
     const uint64_t answer = (uint64_t)0x1234 << 32 | (uint64_t)0xABCD << 16 | (uint64_t)0xEF << 8 | 0x56;
 
     return felica_answer_number(answer) == 0x56 && felica_answer_scheme(answer) == 0xEF && felica_answer_length(answer) == 0xABCD &&
+           felica_answer_index(answer) == 0xABCD && felica_answer_count(answer) == 0xABCD &&
            felica_answer_transaction_number(answer) == 0x1234 && felica_answer_node(answer) == 0x1234;
+}
+
+// A session of one byte: 17 from each.
+static int session_calls(void)
+{
+    const uint8_t in[1] = {1};
+    uint8_t session[1] = {1}, out[1];
+    const uint64_t bad = FELICA_BAD_MARK_OR_LENGTH;
+
+    return felica_session_new(1, 0, in, 1, in, 1, in, 1, session, 1) == bad &&
+           felica_session_increment_transaction_number(session, 1) == bad &&
+           felica_session_set_transaction_number(session, 1, 0) == bad &&
+           felica_session_encrypt_command(in, 1, 0, in, 1, out, 1) == bad &&
+           felica_session_apply_response(session, 1, 0, in, 1, out, 1) == bad &&
+           felica_session_node_index(in, 1, 0) == bad &&
+           felica_session_transaction_number(in, 1) == bad &&
+           felica_session_turned_away(in, 1) == bad &&
+           felica_session_scheme(in, 1) == bad &&
+           felica_session_transaction_id(in, 1, out, 1) == bad &&
+           felica_session_nodes(in, 1, out, 1) == bad;
 }
 
 // An ID, IDm, key, list or credentials of one byte: 17 from each.
@@ -90,5 +115,5 @@ static int calls(void)
 
 int main(void)
 {
-    return accessors() && calls() ? 0 : 1;
+    return accessors() && calls() && session_calls() ? 0 : 1;
 }
