@@ -221,7 +221,8 @@ static void algorithms(void)
 
 static uint64_t idm(size_t n)
 {
-    return felica_encrypt_challenge1a(FELICA_SCHEME_DES, zeros, FELICA_DES_DERIVED_KEYS_SIZE, zeros, n, zeros, FELICA_DES_BLOCK_SIZE, out, 99);
+    return felica_encrypt_challenge1a(FELICA_SCHEME_DES, zeros, FELICA_DES_DERIVED_KEYS_SIZE, zeros, n, zeros, FELICA_DES_BLOCK_SIZE, out,
+                                      99);
 }
 
 static uint64_t des_keys(size_t n)
@@ -592,7 +593,8 @@ static void numbers_of_frames(void)
     answer = felica_encrypt_command(FELICA_SCHEME_DES, 0x14, 5, other, FELICA_ID_SIZE, zeros, FELICA_DES_KEY_SIZE, zeros, 0, data, 100);
     HOLDS(length(answer) == 16);
     HOLDS(number(open_des(data, 16)) == FELICA_ID_DIFFERS);
-    answer = felica_encrypt_command(FELICA_SCHEME_AES128, 0, 0, zeros, FELICA_ID_SIZE, zeros, FELICA_AES_CREDENTIALS_SIZE, zeros, 0, out, 9);
+    answer = felica_encrypt_command(FELICA_SCHEME_AES128, 0, 0, zeros, FELICA_ID_SIZE, zeros, FELICA_AES_CREDENTIALS_SIZE, zeros, 0, out,
+                                    9);
     HOLDS(number(answer) == FELICA_OUTPUT_TOO_SMALL);
     HOLDS(number(idm(7)) == FELICA_BAD_MARK_OR_LENGTH);
 }

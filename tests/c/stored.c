@@ -137,47 +137,45 @@ static void as_written_here(const struct call *c, uint64_t answer, struct text w
     }
 }
 
-static void take_input(struct call *c, char input, char *field)
+// Where an input of bytes belongs; NULL for one that is none.
+static struct text *text_for(struct call *c, char input)
 {
     switch (input) {
-    case 's':
-        c->scheme = (uint8_t)number_of(field, 255);
-        break;
-    case 'c':
-        c->code = (uint8_t)number_of(field, 255);
-        break;
-    case 'n':
-        c->number = (uint16_t)number_of(field, 65535);
-        break;
     case 'i':
-        c->id = bytes_of(field);
-        break;
+        return &c->id;
     case 'k':
-        c->credentials = bytes_of(field);
-        break;
+        return &c->credentials;
     case '3':
-        c->challenge_3c = bytes_of(field);
-        break;
+        return &c->challenge_3c;
     case 'x':
-        c->checked = bytes_of(field);
-        break;
+        return &c->checked;
     case 'a':
-        c->areas = bytes_of(field);
-        break;
+        return &c->areas;
     case 'v':
-        c->services = bytes_of(field);
-        break;
+        return &c->services;
     case 'p':
-        c->individual = bytes_of(field);
-        break;
+        return &c->individual;
     case 'l':
-        c->nodes = bytes_of(field);
-        break;
+        return &c->nodes;
     case 'd':
-        c->data = bytes_of(field);
-        break;
+        return &c->data;
     default:
-        break;
+        return NULL;
+    }
+}
+
+static void take_input(struct call *c, char input, char *field)
+{
+    struct text *t = text_for(c, input);
+
+    if (t != NULL) {
+        *t = bytes_of(field);
+    } else if (input == 's') {
+        c->scheme = (uint8_t)number_of(field, 255);
+    } else if (input == 'c') {
+        c->code = (uint8_t)number_of(field, 255);
+    } else if (input == 'n') {
+        c->number = (uint16_t)number_of(field, 65535);
     }
 }
 
