@@ -2,6 +2,7 @@
 use crate::note;
 use session::AuthenticatedContext;
 use session::Received;
+use session::StepAnswer;
 use textfile::Tally;
 ghost use Prim.Native.Nat.{_≤_};
 ghost use lib.ListN.{length};
@@ -127,19 +128,20 @@ pub(crate) fn stepping(so_far: Tally) -> Tally {
 
 fn step(run: Run, answer: u8, number: u16) -> Run {
     let context = run.context;
-    let stepped = context.increment_transaction_number();
+    let stepped = session::advance(context);
     let after = stepped.context;
     let value = if answer == 0 { number } else { 0 };
-    let right = is_both(
-        stepped.number == answer,
-        stepped.transaction_number == value,
-    );
+    let right = is_step(stepped.answer, answer, value);
     noted(run, after, is_both(right, is_left(after, number, 0)))
+}
+
+fn is_step(given: StepAnswer, answer: u8, value: u16) -> bool {
+    is_both(given.number == answer, given.transaction_number == value)
 }
 
 fn set(run: Run, number: u16) -> Run {
     let before = run.context;
-    let context = before.set_transaction_number(number);
+    let context = before.with_transaction_number(number);
     let tally = run.tally;
     Run { tally, context }
 }

@@ -5,6 +5,7 @@ use crate::field;
 use session::AuthenticatedContext;
 use session::Made;
 use session::Received;
+use session::StepAnswer;
 
 // What no operation answers: the session after a call is not what the answer says.
 const WRONG: u8 = 255;
@@ -23,11 +24,15 @@ pub(crate) fn step(line: &[u8]) -> Given {
     if session.number != 0 {
         return call::said(WRONG, 0);
     }
-    let stepped = session.context.increment_transaction_number();
-    let value = stepped.transaction_number;
-    let after = stepped.context;
-    if is_after(stepped.number, number, value, after) {
-        return call::said(stepped.number, value);
+    let stepped = session::advance(session.context);
+    told(stepped.answer, number, stepped.context)
+}
+
+// What a step answers, if the session is as it has to be after it.
+fn told(answer: StepAnswer, before: u16, after: AuthenticatedContext) -> Given {
+    let value = answer.transaction_number;
+    if is_after(answer.number, before, value, after) {
+        return call::said(answer.number, value);
     }
     call::said(WRONG, value)
 }

@@ -5,7 +5,7 @@ use mathlib.Core.List.{List, [], _∷_, _++_, append-nil}
 use Prim.Native.Nat.{ℕ}
 use native.Mathlib.Omega.{arith}
 use borrow.Author.Tests.{eq-eqb}
-use lib.Dec.{eqb, ltb}
+use lib.Dec.{eqb}
 use lib.ListN.{length, drop, getD}
 use Rattle.frame.specs.Outcome.{Outcome, Row, row, choose, decide, refused, accepted as accepting, over}
 use Rattle.frame.specs.Tests.{isnt, either, both}
@@ -13,7 +13,7 @@ use Rattle.frame.proofs.Decides.{either-false, isnt-false, is-number}
 use Rattle.frame.proofs.Sames.{both-true}
 use Rattle.session.specs.History.{Event, step, setting, response, next, after, refusals, least}
 use Rattle.session.specs.Session.{Step, stepped, withNumber, withCount, counting, received, makeRows, established}
-use Rattle.session.specs.Record.{encode, decode, isSession, Call, Keeps, telling, answering, callStep, callSet, callReceive, callOf, Turn, events, lastBytes, Through, making, MakesKept}
+use Rattle.session.specs.Record.{encode, decode, isSession, Keeps, telling, answering, callStep, callSet, callReceive, callOf, Turn, events, lastBytes, Through, making, MakesKept}
 use Rattle.session.specs.declared.context.AuthenticatedContext.{AuthenticatedContext}
 use Rattle.session.proofs.Histories.{true-count-made}
 use Rattle.session.proofs.Records.{session-size}

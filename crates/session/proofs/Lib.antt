@@ -6,6 +6,7 @@ pub mod Derives
 pub mod Gathers
 pub mod Histories
 pub mod Kept
+pub mod Lent
 pub mod NodeLists
 pub mod Nodes
 pub mod Places

@@ -18,17 +18,17 @@ use Rattle.frame.proofs.Decides.{numbered, decide-false, first-refuses, first-p
 use Rattle.frame.proofs.Schemes.{opening-whole}
 use Rattle.session.specs.Session.{credentialsSize, credentialsOf, makeRows, filled, withNumber, withCount, stepped, Steps, more, counting, opened, acceptRows, receiving, received, Receives}
 use Rattle.session.specs.declared.context.AuthenticatedContext.{AuthenticatedContext}
-use Rattle.session.specs.declared.context.Stepped.{Stepped}
+use Rattle.session.specs.declared.context.StepAnswer.{StepAnswer}
 use Rattle.session.specs.declared.context.Received.{Received}
 
 -- ---- the number step
 
-module _ (s : AuthenticatedContext) (r : Stepped) where
-  pub steps-refused : s .«transaction_number» ≡ 65535 → r .number ≡ 9 → r .«transaction_number» ≡ 0 → r .context ≡ s → Steps s r
+module _ (s : AuthenticatedContext) (r : StepAnswer) (u : AuthenticatedContext) where
+  pub steps-refused : s .«transaction_number» ≡ 65535 → r .number ≡ 9 → r .«transaction_number» ≡ 0 → u ≡ s → Steps s r u
   unfolding stepped choose
   steps-refused e n t c = let q = eq-eqb _ _ e in record { number = n ∙ rw q; transaction = t ∙ rw q; session = c ∙ rw q }
 
-  pub steps-on : (s .«transaction_number» ≡ 65535 → ⊥) → r .number ≡ 0 → r .«transaction_number» ≡ s .«transaction_number» + 1 → r .context ≡ withNumber (s .«transaction_number» + 1) s → Steps s r
+  pub steps-on : (s .«transaction_number» ≡ 65535 → ⊥) → r .number ≡ 0 → r .«transaction_number» ≡ s .«transaction_number» + 1 → u ≡ withNumber (s .«transaction_number» + 1) s → Steps s r u
   unfolding stepped choose
   steps-on e n t c = let q = ne-eqb _ _ e in record { number = n ∙ rw q; transaction = t ∙ rw q; session = c ∙ rw q }
 

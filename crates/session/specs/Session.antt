@@ -11,7 +11,7 @@ use Rattle.frame.specs.Tests.{isnt, either, both}
 use Rattle.session.specs.Entries.{nodes}
 use Rattle.session.specs.declared.context.AuthenticatedContext.{AuthenticatedContext}
 use Rattle.session.specs.declared.context.Made.{Made}
-use Rattle.session.specs.declared.context.Stepped.{Stepped}
+use Rattle.session.specs.declared.context.StepAnswer.{StepAnswer}
 use Rattle.session.specs.declared.context.Received.{Received}
 
 -- ---- making a session
@@ -112,10 +112,11 @@ stepped s =
     (record { number = 9; transaction = 0; session = s })
     (record { number = 0; transaction = s .«transaction_number» + 1; session = withNumber (s .«transaction_number» + 1) s })
 
-pub record Steps (s : AuthenticatedContext) (r : Stepped) : Type 0 where
+-- an answer r, and a session that was s and is t
+pub record Steps (s : AuthenticatedContext) (r : StepAnswer) (t : AuthenticatedContext) : Type 0 where
   pub number : r .number ≡ stepped s .number
   pub transaction : r .«transaction_number» ≡ stepped s .transaction
-  pub session : r .context ≡ stepped s .session
+  pub session : t ≡ stepped s .session
 
 -- ---- the response step: open, require the number to exceed the session's, then set it
 

@@ -28,10 +28,15 @@ pub struct Made {
     pub context: AuthenticatedContext,
 }
 
-// What a step of the number answers: 9 or 0, the new number, and the session after it.
-pub struct Stepped {
+// What a step of the number answers: 9 or 0, and the new number.
+pub struct StepAnswer {
     pub number: u8,
     pub transaction_number: u16,
+}
+
+// The same, and the session after it.
+pub struct Stepped {
+    pub answer: StepAnswer,
     pub context: AuthenticatedContext,
 }
 
@@ -254,6 +259,35 @@ fn encode_parts(
     bytes
 }
 
+// The next number, before a command is sealed: 9 where there is none. It works on the session that is lent, over the step by value; where
+// it refuses, the session is as it was.
+pub fn increment_transaction_number(context: &mut AuthenticatedContext) -> StepAnswer
+    ensures { λ r. ⌜ Steps (now (context .entry)) r (now (context .exit)) ⌝ }
+{
+    let stepped = (*context).step();
+    *context = stepped.context;
+    stepped.answer
+}
+
+// Sets the number of the session that is lent, whatever it was; it may go back.
+pub fn set_transaction_number(context: &mut AuthenticatedContext, value: u16)
+    ensures { λ _. ⌜ now (context .exit) ≡ withNumber value (now (context .entry)) ⌝ }
+{
+    context.transaction_number = value;
+}
+
+// A session by value, lent for its step: whoever calls this needs no walk by hand.
+pub fn advance(context: AuthenticatedContext) -> Stepped
+    ensures { λ r. ⌜ Steps context (r .answer) (r .context) ⌝ }
+{
+    let mut lent = context;
+    let answer = increment_transaction_number(&mut lent);
+    Stepped {
+        answer,
+        context: lent,
+    }
+}
+
 impl AuthenticatedContext {
     // Makes a session with its number, its transaction ID, its credentials and at most 64 nodes.
     pub fn new(scheme: u8, number: u16, id: &[u8], credentials: &[u8], nodes: &[u8]) -> Made
@@ -318,8 +352,8 @@ impl AuthenticatedContext {
         index_of(nodes, listed(self.node_count), node)
     }
 
-    // Sets the number, whatever it was.
-    pub fn set_transaction_number(self, value: u16) -> AuthenticatedContext
+    // The session with another number, whatever it was.
+    pub fn with_transaction_number(self, value: u16) -> AuthenticatedContext
         ensures { λ r. ⌜ r ≡ withNumber value self ⌝ }
     {
         let mut next = self;
@@ -327,23 +361,27 @@ impl AuthenticatedContext {
         next
     }
 
-    // The next number, before a command is sealed: 9 where there is none.
-    pub fn increment_transaction_number(self) -> Stepped
-        ensures { λ r. ⌜ Steps self r ⌝ }
+    // The number step by value.
+    pub fn step(self) -> Stepped
+        ensures { λ r. ⌜ Steps self (r .answer) (r .context) ⌝ }
     {
         let number = self.transaction_number;
         if number == 65535 {
             return Stepped {
-                number: 9,
-                transaction_number: 0,
+                answer: StepAnswer {
+                    number: 9,
+                    transaction_number: 0,
+                },
                 context: self,
             };
         }
         let next = number + 1;
         Stepped {
-            number: 0,
-            transaction_number: next,
-            context: self.set_transaction_number(next),
+            answer: StepAnswer {
+                number: 0,
+                transaction_number: next,
+            },
+            context: self.with_transaction_number(next),
         }
     }
 
@@ -367,7 +405,7 @@ impl AuthenticatedContext {
             number: 0,
             length: opened.length,
             transaction_number: number,
-            context: self.set_transaction_number(number),
+            context: self.with_transaction_number(number),
         }
     }
 

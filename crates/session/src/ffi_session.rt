@@ -2,10 +2,12 @@
 use crate::answer;
 use crate::context;
 use crate::context::AuthenticatedContext;
+use crate::context::StepAnswer;
 use crate::ffi;
 ghost use mathlib.Core.Path.{_≡_};
 ghost use mathlib.Core.List.{[]};
 ghost use lib.ListN.{length};
+ghost use Rattle.frame.specs.Packed.{packed};
 ghost use Rattle.session.specs.Record.{encode, decode, isSession, Tells, Keeps, MakesKept, callStep, callSet, callSeal, callReceive, callIndex, callNumber, callCount, callScheme, callId, callNodes};
 
 // Bytes are a session: their size, the version, the scheme mark.
@@ -46,6 +48,13 @@ fn store(context: AuthenticatedContext, bytes: &mut [u8])
     cipher::copy(&kept, bytes);
 }
 
+// The answer of a step as C gets it.
+fn pack_step(answer: StepAnswer) -> u64
+    ensures { λ r. ⌜ r ≡ packed (answer .number) 0 0 (answer .«transaction_number») ⌝ }
+{
+    ffi::pack_all(answer.number, 0, 0, answer.transaction_number)
+}
+
 // Makes a session.
 #[no_mangle]
 pub extern "C" fn felica_session_new(
@@ -77,9 +86,9 @@ pub extern "C" fn felica_session_increment_transaction_number(session: &mut [u8]
     if !is_session(session) {
         return 17;
     }
-    let stepped = load(session).increment_transaction_number();
+    let stepped = context::advance(load(session));
     store(stepped.context, session);
-    ffi::pack_all(stepped.number, 0, 0, stepped.transaction_number)
+    pack_step(stepped.answer)
 }
 
 // Sets the number.
@@ -90,7 +99,7 @@ pub extern "C" fn felica_session_set_transaction_number(session: &mut [u8], numb
     if !is_session(session) {
         return 17;
     }
-    store(load(session).set_transaction_number(number), session);
+    store(load(session).with_transaction_number(number), session);
     0
 }
 

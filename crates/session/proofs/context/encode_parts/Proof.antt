@@ -1,4 +1,4 @@
-use mathlib.Core.Path.{_≡_, refl, ap, _∙_}
+use mathlib.Core.Path.{refl, ap, _∙_}
 use native.Mathlib.Omega.{arith}
 use Rattle.frame.proofs.AesSeals.{with-part}
 use Rattle.frame.proofs.Pieces.{reaches}
@@ -7,9 +7,6 @@ use Rattle.session.proofs.Records.{decode-encode, parts-copied}
 use borrow.Author.Needs.{needs}
 use Rattle.session.proofs.context.encode_parts.Statement.{statement}
 use Rattle.session.proofs.context.encode_parts.Tie as tie
-use Rattle.session.proofs.context.encode_parts.Reads as reads
-use Rattle.session.proofs.context.encode_parts.Lts as lts
-use Rattle.cipher.proofs.copy.Reads as copy-reads
 
 cast-t14 : tie.Need-cast-t14
 cast-t14 c = search needs

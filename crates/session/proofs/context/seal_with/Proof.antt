@@ -4,10 +4,6 @@ use Rattle.session.proofs.Sessions.{credentials-most}
 use borrow.Author.Needs.{needs}
 use Rattle.session.proofs.context.seal_with.Statement.{statement}
 use Rattle.session.proofs.context.seal_with.Tie as tie
-use Rattle.session.proofs.context.seal_with.Reads as reads
-use Rattle.session.proofs.context.seal_with.Lts as lts
-use Rattle.frame.proofs.encrypt_command.Reads as encrypt-command-reads
-use Rattle.session.proofs.context.credentials_size.Reads as credentials-size-reads
 
 credentials-size-requires : tie.Need-credentials-size-requires
 credentials-size-requires c κs = search needs

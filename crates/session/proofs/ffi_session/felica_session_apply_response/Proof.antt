@@ -1,20 +1,11 @@
 use borrow.Author.Tests.{not-true, not-false}
 use mathlib.Core.Path.{refl, sym, _∙_}
-use mathlib.Core.List.{[]}
-use Rattle.frame.specs.Outcome.{over}
 use Rattle.session.proofs.Records.{session-size, no-keeps, keeps}
 use Rattle.session.specs.Record.{callReceive, answering}
 use lib.ListN.{length}
 use borrow.Author.Needs.{needs}
 use Rattle.session.proofs.ffi_session.felica_session_apply_response.Statement.{statement}
 use Rattle.session.proofs.ffi_session.felica_session_apply_response.Tie as tie
-use Rattle.session.proofs.ffi_session.felica_session_apply_response.Reads as reads
-use Rattle.session.proofs.ffi_session.felica_session_apply_response.Lts as lts
-use Rattle.session.proofs.context.AuthenticatedContext.apply_response.Reads as apply-response-reads
-use Rattle.session.proofs.ffi.pack_all.Reads as pack-all-reads
-use Rattle.session.proofs.ffi_session.is_session.Reads as is-session-reads
-use Rattle.session.proofs.ffi_session.load.Reads as load-reads
-use Rattle.session.proofs.ffi_session.store.Reads as store-reads
 
 is-session-requires : tie.Need-is-session-requires
 is-session-requires c κs = search needs

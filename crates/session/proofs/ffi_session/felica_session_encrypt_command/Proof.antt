@@ -1,19 +1,11 @@
 use borrow.Author.Tests.{not-true, not-false}
 use lib.ListN.{length}
 use mathlib.Core.Path.{refl, sym, _∙_}
-use mathlib.Core.List.{[]}
-use Rattle.frame.specs.Outcome.{over}
 use Rattle.session.proofs.Records.{session-size, no-tells, tells}
 use Rattle.session.specs.Record.{callSeal, answering}
 use borrow.Author.Needs.{needs}
 use Rattle.session.proofs.ffi_session.felica_session_encrypt_command.Statement.{statement}
 use Rattle.session.proofs.ffi_session.felica_session_encrypt_command.Tie as tie
-use Rattle.session.proofs.ffi_session.felica_session_encrypt_command.Reads as reads
-use Rattle.session.proofs.ffi_session.felica_session_encrypt_command.Lts as lts
-use Rattle.session.proofs.context.AuthenticatedContext.encrypt_command.Reads as encrypt-command-reads
-use Rattle.session.proofs.ffi.pack.Reads as pack-reads
-use Rattle.session.proofs.ffi_session.is_session.Reads as is-session-reads
-use Rattle.session.proofs.ffi_session.load.Reads as load-reads
 
 is-session-requires : tie.Need-is-session-requires
 is-session-requires c κs = search needs

@@ -1,14 +1,9 @@
-use mathlib.Core.Path.{refl, sym, _∙_}
+use mathlib.Core.Path.{refl}
 use native.Mathlib.Omega.{arith}
 use Rattle.session.proofs.Records.{making-other-size, making-refused, making-made}
 use borrow.Author.Needs.{needs}
 use Rattle.session.proofs.ffi_session.felica_session_new.Statement.{statement}
 use Rattle.session.proofs.ffi_session.felica_session_new.Tie as tie
-use Rattle.session.proofs.ffi_session.felica_session_new.Reads as reads
-use Rattle.session.proofs.ffi_session.felica_session_new.Lts as lts
-use Rattle.session.proofs.context.AuthenticatedContext.new.Reads as new-reads
-use Rattle.session.proofs.ffi.pack_all.Reads as pack-all-reads
-use Rattle.session.proofs.ffi_session.store.Reads as store-reads
 
 returns : tie.Need-returns
 returns c = making-other-size _ _ _ _ _ _ _ (c .if1 .taken) refl

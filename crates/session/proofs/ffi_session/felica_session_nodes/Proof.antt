@@ -1,7 +1,5 @@
 use borrow.Author.Tests.{not-true, not-false}
 use mathlib.Core.Path.{refl, sym, _∙_}
-use mathlib.Core.List.{[]}
-use Rattle.frame.specs.Outcome.{over}
 use Rattle.session.proofs.Records.{session-size, no-tells, tells}
 use Rattle.session.specs.Record.{callNodes, handing, answering}
 use lib.ListN.{length}
@@ -9,15 +7,6 @@ use native.Mathlib.Nat.{sub-zero}
 use borrow.Author.Needs.{needs}
 use Rattle.session.proofs.ffi_session.felica_session_nodes.Statement.{statement}
 use Rattle.session.proofs.ffi_session.felica_session_nodes.Tie as tie
-use Rattle.session.proofs.ffi_session.felica_session_nodes.Reads as reads
-use Rattle.session.proofs.ffi_session.felica_session_nodes.Lts as lts
-use Rattle.session.proofs.answer.delivered.Reads as delivered-reads
-use Rattle.session.proofs.context.AuthenticatedContext.node_count.Reads as node-count-reads
-use Rattle.session.proofs.context.AuthenticatedContext.nodes.Reads as nodes-reads
-use Rattle.session.proofs.context.listed.Reads as listed-reads
-use Rattle.session.proofs.ffi.pack.Reads as pack-reads
-use Rattle.session.proofs.ffi_session.is_session.Reads as is-session-reads
-use Rattle.session.proofs.ffi_session.load.Reads as load-reads
 
 is-session-requires : tie.Need-is-session-requires
 is-session-requires c κs = search needs

@@ -6,16 +6,8 @@ use Rattle.session.proofs.Records.{session-size, no-keeps, keeps}
 use Rattle.session.specs.Record.{callSet, telling}
 use Rattle.frame.specs.Packed.{packed}
 use borrow.Author.Needs.{needs}
-use Rattle.session.proofs.ffi_session.felica_session_set_transaction_number.Statement.{
-  statement,
-}
+use Rattle.session.proofs.ffi_session.felica_session_set_transaction_number.Statement.{statement}
 use Rattle.session.proofs.ffi_session.felica_session_set_transaction_number.Tie as tie
-use Rattle.session.proofs.ffi_session.felica_session_set_transaction_number.Reads as reads
-use Rattle.session.proofs.ffi_session.felica_session_set_transaction_number.Lts as lts
-use Rattle.session.proofs.context.AuthenticatedContext.set_transaction_number.Reads as set-transaction-number-reads
-use Rattle.session.proofs.ffi_session.is_session.Reads as is-session-reads
-use Rattle.session.proofs.ffi_session.load.Reads as load-reads
-use Rattle.session.proofs.ffi_session.store.Reads as store-reads
 
 is-session-requires : tie.Need-is-session-requires
 is-session-requires c κs = search needs
@@ -29,8 +21,8 @@ returns c = no-keeps (callSet (c .before .before .before .before .args .number))
 load-requires : tie.Need-load-requires
 load-requires c κs = session-size _ (sym (c .before .before .is-session .ensures) ∙ not-false _ (c .before .if1 .left))
 
-set-transaction-number-requires : tie.Need-set-transaction-number-requires
-set-transaction-number-requires c κs = search needs
+with-transaction-number-requires : tie.Need-with-transaction-number-requires
+with-transaction-number-requires c κs = search needs
 
 store-requires : tie.Need-store-requires
 store-requires c κs =
@@ -49,7 +41,7 @@ returns-2 c =
     let i = ld .before .before in
     let a = i .before .before .before .before .args in
     keeps (callSet (a .number)) _ _ (sym (i .before .is-session .ensures) ∙ not-false _ (i .if1 .left)) (ld .load .result) (ld .load .ensures) [] [] refl refl
-    _ _ (n .set-transaction-number .ensures) (sto .store .ensures)
+    _ _ (n .with-transaction-number .ensures) (sto .store .ensures)
 
 pub felica-session-set-transaction-number-spec : {M : Type 1} → statement M
 felica-session-set-transaction-number-spec =
@@ -59,7 +51,7 @@ felica-session-set-transaction-number-spec =
     same-length
     returns
     load-requires
-    set-transaction-number-requires
+    with-transaction-number-requires
     store-requires
     same-length-2
     returns-2)

@@ -1,20 +1,11 @@
 use borrow.Author.Tests.{not-true, not-false}
 use mathlib.Core.Path.{refl, sym, _∙_}
-use mathlib.Core.List.{[]}
-use Rattle.frame.specs.Outcome.{over}
 use Rattle.session.proofs.Records.{session-size, no-tells, tells}
 use Rattle.session.specs.Record.{callId, handing, answering}
 use lib.ListN.{length}
 use borrow.Author.Needs.{needs}
 use Rattle.session.proofs.ffi_session.felica_session_transaction_id.Statement.{statement}
 use Rattle.session.proofs.ffi_session.felica_session_transaction_id.Tie as tie
-use Rattle.session.proofs.ffi_session.felica_session_transaction_id.Reads as reads
-use Rattle.session.proofs.ffi_session.felica_session_transaction_id.Lts as lts
-use Rattle.session.proofs.answer.delivered.Reads as delivered-reads
-use Rattle.session.proofs.context.AuthenticatedContext.transaction_id.Reads as transaction-id-reads
-use Rattle.session.proofs.ffi.pack.Reads as pack-reads
-use Rattle.session.proofs.ffi_session.is_session.Reads as is-session-reads
-use Rattle.session.proofs.ffi_session.load.Reads as load-reads
 
 is-session-requires : tie.Need-is-session-requires
 is-session-requires c κs = search needs

@@ -5,16 +5,8 @@ use Rattle.frame.specs.Outcome.{over}
 use Rattle.session.proofs.Records.{session-size, no-tells, tells}
 use Rattle.session.specs.Record.{callNumber, telling}
 use borrow.Author.Needs.{needs}
-use Rattle.session.proofs.ffi_session.felica_session_transaction_number.Statement.{
-  statement,
-}
+use Rattle.session.proofs.ffi_session.felica_session_transaction_number.Statement.{statement}
 use Rattle.session.proofs.ffi_session.felica_session_transaction_number.Tie as tie
-use Rattle.session.proofs.ffi_session.felica_session_transaction_number.Reads as reads
-use Rattle.session.proofs.ffi_session.felica_session_transaction_number.Lts as lts
-use Rattle.session.proofs.context.AuthenticatedContext.transaction_number.Reads as transaction-number-reads
-use Rattle.session.proofs.ffi.pack_all.Reads as pack-all-reads
-use Rattle.session.proofs.ffi_session.is_session.Reads as is-session-reads
-use Rattle.session.proofs.ffi_session.load.Reads as load-reads
 
 is-session-requires : tie.Need-is-session-requires
 is-session-requires c κs = search needs

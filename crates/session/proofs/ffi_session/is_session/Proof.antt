@@ -4,8 +4,6 @@ use mathlib.Core.Bool.{true, false}
 use borrow.Author.Needs.{needs}
 use Rattle.session.proofs.ffi_session.is_session.Statement.{statement}
 use Rattle.session.proofs.ffi_session.is_session.Tie as tie
-use Rattle.session.proofs.ffi_session.is_session.Reads as reads
-use Rattle.session.proofs.ffi_session.is_session.Lts as lts
 
 returns : tie.Need-returns
 returns c = other-size _ (c .if1 .taken)

@@ -5,10 +5,6 @@ use Rattle.session.specs.Record.{decode}
 use borrow.Author.Needs.{needs}
 use Rattle.session.proofs.ffi_session.load.Statement.{statement}
 use Rattle.session.proofs.ffi_session.load.Tie as tie
-use Rattle.session.proofs.ffi_session.load.Reads as reads
-use Rattle.session.proofs.ffi_session.load.Lts as lts
-use Rattle.cipher.proofs.copy.Reads as copy-reads
-use Rattle.session.proofs.context.AuthenticatedContext.decode.Reads as decode-reads
 
 slice-aggregate-copy : tie.Need-slice-aggregate-copy
 slice-aggregate-copy c = search needs

@@ -1,14 +1,10 @@
-use mathlib.Core.Path.{_≡_, sym, ap, _∙_}
+use mathlib.Core.Path.{ap, _∙_}
 use native.Mathlib.Omega.{arith}
 use Rattle.cipher.proofs.Copies.{copied}
 use Rattle.session.specs.Record.{decode}
 use borrow.Author.Needs.{needs}
 use Rattle.session.proofs.ffi_session.store.Statement.{statement}
 use Rattle.session.proofs.ffi_session.store.Tie as tie
-use Rattle.session.proofs.ffi_session.store.Reads as reads
-use Rattle.session.proofs.ffi_session.store.Lts as lts
-use Rattle.cipher.proofs.copy.Reads as copy-reads
-use Rattle.session.proofs.context.AuthenticatedContext.encode.Reads as encode-reads
 
 encode-requires : tie.Need-encode-requires
 encode-requires c κs = search needs

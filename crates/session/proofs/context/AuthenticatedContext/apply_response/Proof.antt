@@ -68,8 +68,8 @@ part-copy-end c =
 copy-requires : tie.Need-copy-requires
 copy-requires c κs = search needs
 
-set-transaction-number-requires : tie.Need-set-transaction-number-requires
-set-transaction-number-requires c κs = search needs
+with-transaction-number-requires : tie.Need-with-transaction-number-requires
+with-transaction-number-requires c κs = search needs
 
 same-length : tie.Need-same-length
 same-length c = search needs
@@ -94,7 +94,7 @@ returns-3 c =
     receives-accepted (a .self) _ (a .code) (a .«data» .now) (length o) (sym (m .number) ∙ i .if1 .left) _ o _
     (rw (m .transaction, m .length-is) at k) (i2 .if2 .left) refl (m .length-is) (m .transaction)
     (copied-over (take (n - 0) w) o _ f (cp .copy .ensures) ∙ ap (λ (l : List ℕ). over l o) b)
-    (c .set-transaction-number .ensures ∙ ap (λ (t : ℕ). withNumber t (a .self)) (m .transaction))
+    (c .with-transaction-number .ensures ∙ ap (λ (t : ℕ). withNumber t (a .self)) (m .transaction))
 
 pub apply-response-spec : {M : Type 1} → statement M
 apply-response-spec =
@@ -112,6 +112,6 @@ apply-response-spec =
     part-copy-start
     part-copy-end
     copy-requires
-    set-transaction-number-requires
+    with-transaction-number-requires
     same-length
     returns-3)

@@ -1,4 +1,4 @@
-use mathlib.Core.Path.{_≡_, sym}
+use mathlib.Core.Path.{sym}
 use native.Mathlib.Omega.{arith}
 use lib.ListN.{take, drop, replicate}
 use Rattle.cipher.proofs.Copies.{copied, length-part}
@@ -7,10 +7,6 @@ use Rattle.session.proofs.Records.{decoded}
 use borrow.Author.Needs.{needs}
 use Rattle.session.proofs.context.AuthenticatedContext.decode.Statement.{statement}
 use Rattle.session.proofs.context.AuthenticatedContext.decode.Tie as tie
-use Rattle.session.proofs.context.AuthenticatedContext.decode.Reads as reads
-use Rattle.session.proofs.context.AuthenticatedContext.decode.Lts as lts
-use Rattle.cipher.proofs.copy.Reads as copy-reads
-use Rattle.frame.proofs.number_of_bytes.Reads as number-of-bytes-reads
 
 sub-copy : tie.Need-sub-copy
 sub-copy c = search needs

@@ -2,9 +2,6 @@ use Rattle.session.specs.Record.{contextOf}
 use borrow.Author.Needs.{needs}
 use Rattle.session.proofs.context.AuthenticatedContext.encode.Statement.{statement}
 use Rattle.session.proofs.context.AuthenticatedContext.encode.Tie as tie
-use Rattle.session.proofs.context.AuthenticatedContext.encode.Reads as reads
-use Rattle.session.proofs.context.AuthenticatedContext.encode.Lts as lts
-use Rattle.session.proofs.context.encode_parts.Reads as encode-parts-reads
 
 encode-parts-requires : tie.Need-encode-parts-requires
 encode-parts-requires c κs = search needs

@@ -1,12 +1,7 @@
 use Rattle.session.specs.Session.{credentialsOf}
 use borrow.Author.Needs.{needs}
-use Rattle.session.proofs.context.AuthenticatedContext.encrypt_command.Statement.{
-  statement,
-}
+use Rattle.session.proofs.context.AuthenticatedContext.encrypt_command.Statement.{statement}
 use Rattle.session.proofs.context.AuthenticatedContext.encrypt_command.Tie as tie
-use Rattle.session.proofs.context.AuthenticatedContext.encrypt_command.Reads as reads
-use Rattle.session.proofs.context.AuthenticatedContext.encrypt_command.Lts as lts
-use Rattle.session.proofs.context.seal_with.Reads as seal-with-reads
 
 seal-with-requires : tie.Need-seal-with-requires
 seal-with-requires c κs = search needs
