@@ -184,6 +184,10 @@ pub size-short : (scheme n : ℕ) → n ≤ longest scheme → (sealedSize schem
 unfolding sealedSize longest aesSize
 size-short scheme n = choose-short (eqb scheme 1) n
 
+pub length-framed : (code : ℕ) (l : List ℕ) → length (framed code l) ≡ length l + 2
+unfolding framed
+length-framed code l = omega arith
+
 -- a response frame is made of the sealed data, wherever it fits the output, and 16 is the answer elsewhere; what follows its length byte and
 -- code opens as above
 module _ (scheme : ℕ) (c id : List ℕ) (code : ℕ) (f : Frames scheme c id code) where

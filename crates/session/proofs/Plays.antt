@@ -1,25 +1,26 @@
 -- What a reader and a card get that play an exchange through buffers of 16 bytes. Assumes nothing.
 use mathlib.Core.Path.{_≡_, refl, sym, ap, _∙_}
 use mathlib.Core.Bool.{Bool, true, false}
-use mathlib.Core.List.{List, []}
+use mathlib.Core.List.{List, [], _∷_}
 use mathlib.Core.Logic.{_⊎_, inl, inr}
-use Prim.Native.Nat.{ℕ, _%_, _≤_, _<_}
+use Prim.Native.Nat.{ℕ, zero, suc, _+_, _-_, _%_, _≤_, _<_}
 use native.Mathlib.Omega.{arith}
 use borrow.Author.Tests.{eqb-true}
 use lib.Dec.{eqb, lit≤}
-use lib.ListN.{length, take, replicate}
+use lib.ListN.{length, take, drop, replicate}
 use Rattle.cipher.specs.Bytes.{Bytes}
 use Rattle.cipher.proofs.ByteLists.{Block}
-use Rattle.frame.specs.Outcome.{Outcome, accepted, choose, over}
+use Rattle.frame.specs.declared.answer.Answer.{Answer}
+use Rattle.frame.specs.Outcome.{Outcome, accepted, choose, over, Meets}
 use Rattle.frame.specs.Inverse.{Domain, Frames}
-use Rattle.frame.specs.Scheme.{sealed, sealing, opening}
+use Rattle.frame.specs.Scheme.{sealed, sealing, opening, framed, responding, sealedSize}
 use Rattle.frame.specs.Tests.{either}
 use Rattle.frame.proofs.Decides.{either-false, isnt-false, is-number}
-use Rattle.frame.proofs.Frames.{frames, opens, size-short}
+use Rattle.frame.proofs.Frames.{frames, opens, size-short, length-framed, responds, response-data}
 use Rattle.frame.proofs.Overs.{front}
 use Rattle.frame.proofs.Refusals.{accepted-zero}
 use Rattle.frame.proofs.Schemes.{longest-is-des, longest-is-aes}
-use Rattle.session.specs.Agreement.{Sealable}
+use Rattle.session.specs.Agreement.{Sealable, Opened}
 use Rattle.session.specs.Challenge.{blockSize, unknownScheme, wrong, wrongWith3C, underAlpha, underBeta, making1A, reading1A, making1B, checking1B, making2A, reading2A, making2B, checking2B}
 use Rattle.session.proofs.Agreeing as two
 use Rattle.session.proofs.Sessions.{choose-most}
@@ -98,7 +99,17 @@ module _ (s : ℕ) (keys idm c3 x : List ℕ) (bk : Bytes keys) (bi : Bytes idm)
       let e3 : take (length x) w3 ≡ underAlpha s keys idm x = written-front _ _ _ w3 _ p (b .long ∙ sym l) h3 in
       h4 ∙ ap (λ (o : Outcome). o .number) (two.checks-2b s keys idm ends x (take (length x) w3) block .1 e3) ∙ accepted-zero 0 []
 
--- ---- a command: sealed and opened
+-- what follows the first two bytes, cut before or after
+take-none : (m : ℕ) → take {A = ℕ} m [] ≡ []
+take-none zero = refl
+take-none (suc m) = refl
+
+take-after-two : (m : ℕ) (w : List ℕ) → take m (drop 2 w) ≡ drop 2 (take (suc (suc m)) w)
+take-after-two m [] = take-none m
+take-after-two m (x ∷ []) = take-none m
+take-after-two m (x ∷ y ∷ w) = refl
+
+-- ---- a command and a response: sealed and opened
 
 module _ (s code number : ℕ) (id c p : List ℕ) (bc : Bytes c) (bi : Bytes id) (bp : Bytes p) (hc : code < 256) (hn : number < 65536) (k : Sealable s (length c) (length id) (length p)) where
   domain : Domain s number p
@@ -114,15 +125,41 @@ module _ (s code number : ℕ) (id c p : List ℕ) (bc : Bytes c) (bi : Bytes id
   unfolding accepted
   sealed-most = rw seals-256 (rw (here .size number p domain) (size-short s (length p) (k .fits) .0))
 
-  -- n bytes were written to w, and opened
-  pub plays-command : (w : List ℕ) (n r : ℕ) → n ≡ length (sealing s c code number id p 256 .bytes) → w ≡ over (sealing s c code number id p 256 .bytes) (replicate 256 0)
-      → r ≡ opening s c code id (take n w) 256 .number → r ≡ 0
+  -- sealed data, opened
+  opens-256 : (d out : List ℕ) (g : Answer) → d ≡ sealed s c code number id p → Meets (opening s c code id d 256) g (replicate 256 0) out → Opened (g .number) (g .length) (g .«transaction_number») out number p
   unfolding accepted
-  plays-command w n r hl hw hr =
-      let e : take n w ≡ sealed s c code number id p = written-front _ _ _ w n seals-256 (sym (hl ∙ ap (λ (o : Outcome). length (o .bytes)) seals-256)) hw in
+  opens-256 d out g e m =
       let l = size-short s (length p) (k .fits) .1 in
-      hr ∙ ap (λ (x : List ℕ). opening s c code id x 256 .number) e
-      ∙ ap (λ (o : Outcome). o .number) (opens s c id code (k .known) (k .all) bc (k .six) bi hc number 256 p domain (omega arith))
+      let o : opening s c code id d 256 ≡ accepted number p = rw e (opens s c id code (k .known) (k .all) bc (k .six) bi hc number 256 p domain (omega arith)) in
+      let n = rw o at m in
+      record { accepted = n .number; same-number = n .transaction; long = n .length-is; short = omega arith; same-payload = front p (replicate 256 0) out (length p) refl (n .output) }
+
+  -- n bytes were written to w, and opened
+  pub plays-command : (w out : List ℕ) (n : ℕ) (g : Answer) → n ≡ length (sealing s c code number id p 256 .bytes) → w ≡ over (sealing s c code number id p 256 .bytes) (replicate 256 0)
+      → Meets (opening s c code id (take n w) 256) g (replicate 256 0) out → Opened (g .number) (g .length) (g .«transaction_number») out number p
+  unfolding accepted
+  plays-command w out n g hl hw m =
+      opens-256 (take n w) out g (written-front _ _ _ w n seals-256 (sym (hl ∙ ap (λ (o : Outcome). length (o .bytes)) seals-256)) hw) m
+
+  frames-256 : responding s c code number id p 256 ≡ accepted 0 (framed code (sealed s c code number id p))
+  frames-256 = let l = size-short s (length p) (k .fits) .0 in responds s c id code here number 256 p domain (omega arith)
+
+  pub framed-long : length (responding s c code number id p 256 .bytes) ≡ sealedSize s (length p) + 2
+  unfolding accepted
+  framed-long = rw frames-256 (length-framed code _ ∙ ap (λ (j : ℕ). j + 2) (here .size number p domain))
+
+  pub framed-most : length (responding s c code number id p 256 .bytes) ≤ 255
+  framed-most = let l = size-short s (length p) (k .fits) .0 in rw framed-long (omega arith)
+
+  -- a frame of n bytes was written to w, and what follows its length byte and code opened
+  pub plays-response : (w out : List ℕ) (n : ℕ) (g : Answer) → n ≡ length (responding s c code number id p 256 .bytes) → w ≡ over (responding s c code number id p 256 .bytes) (replicate 256 0)
+      → Meets (opening s c code id (take (n - 2) (drop 2 w)) 256) g (replicate 256 0) out → Opened (g .number) (g .length) (g .«transaction_number») out number p
+  unfolding accepted
+  plays-response w out n g hl hw m =
+      let e : take n w ≡ framed code (sealed s c code number id p) = written-front _ _ _ w n frames-256 (sym (hl ∙ ap (λ (o : Outcome). length (o .bytes)) frames-256)) hw in
+      let z : suc (suc (n - 2)) ≡ n = omega (arith, hl, framed-long) in
+      let d : take (n - 2) (drop 2 w) ≡ sealed s c code number id p = take-after-two (n - 2) w ∙ ap (λ (j : ℕ). drop 2 (take j w)) z ∙ ap (drop 2) e ∙ response-data s c id code here number p in
+      opens-256 _ out g d m
 
 -- ---- which commands can be sealed
 

@@ -5,7 +5,7 @@ use mathlib.Core.Path.{_≡_}
 use mathlib.Core.List.{List, _++_}
 use mathlib.Core.Logic.{_↔_, _⊎_}
 use lib.Dec.{eqb}
-use lib.ListN.{length}
+use lib.ListN.{length, take}
 use Rattle.cipher.specs.Bytes.{Bytes}
 use Rattle.frame.specs.Inverse.{Domain}
 use Rattle.frame.specs.Outcome.{Outcome, accepted, choose}
@@ -30,6 +30,14 @@ pub record Inputs (scheme : ℕ) (idm random1 random2 c3 id key : List ℕ) (cod
   pub id-is : Fixed 6 id
   pub key-is : Fixed 8 key
   pub one : code < 256
+
+-- an opening's answer and its output are this number and payload
+pub record Opened (answer size transaction : ℕ) (output : List ℕ) (number : ℕ) (payload : List ℕ) : Type 0 where
+  pub accepted : answer ≡ 0
+  pub same-number : transaction ≡ number
+  pub long : size ≡ length payload
+  pub short : length payload ≤ 256
+  pub same-payload : take (length payload) output ≡ payload
 
 -- lengths of credentials, ID and payload with which a command is sealed and opened: for DES, whole blocks
 pub record Sealable (scheme credentials id payload : ℕ) : Type 0 where

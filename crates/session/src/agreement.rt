@@ -1,11 +1,12 @@
 // Statement 3 in code: a reader and a card play through the public functions, and what they answer is proved to be 0.
 use crate::challenge;
 use crate::keys;
+use frame::Answer;
 ghost use mathlib.Core.Path.{_≡_};
 ghost use mathlib.Core.Bool.{true, false};
 ghost use lib.ListN.{length};
 ghost use Rattle.session.specs.Challenge.{wrongWith3C};
-ghost use Rattle.session.specs.Agreement.{Sealable};
+ghost use Rattle.session.specs.Agreement.{Sealable, Opened};
 
 // The reader sends random 1 as 1A, the card answers with 1B, and the reader checks it.
 fn exchange_random_1(
@@ -72,7 +73,30 @@ fn exchange_random_2(
     checked.number
 }
 
-// Seals a command at one end and opens it at the other: 0 if it opens.
+// 0 if an opening gave this number and payload, else something else.
+fn compared(got: Answer, opened: [u8; 256], number: u16, payload: &[u8]) -> u8
+    ensures { λ r. ⌜ (Opened (got .number) (got .length) (got .«transaction_number») opened number (now (payload .entry)) → r ≡ 0) ⌝ }
+{
+    if got.number != 0 {
+        return got.number;
+    }
+    if got.transaction_number != number {
+        return 15;
+    }
+    let n = payload.len();
+    if got.length as usize != n {
+        return 11;
+    }
+    if 256 < n {
+        return 12;
+    }
+    if !cipher::ct_eq(&opened[0..n], payload) {
+        return 13;
+    }
+    0
+}
+
+// Seals a command at one end and opens it at the other: 0 if its number and payload come back.
 fn exchange_command(
     scheme: u8,
     code: u8,
@@ -89,7 +113,35 @@ fn exchange_command(
     let n = made.length as usize;
     let mut opened = [0u8; 256];
     let got = frame::decrypt_response(scheme, code, id, credentials, &sealed[..n], &mut opened);
-    got.number
+    compared(got, opened, number, payload)
+}
+
+// The same with a response frame: what follows its length byte and code is opened.
+fn exchange_response(
+    scheme: u8,
+    code: u8,
+    number: u16,
+    id: &[u8],
+    credentials: &[u8],
+    payload: &[u8],
+) -> u8
+    requires { ⌜ Sealable scheme (length (now credentials)) (length (now id)) (length (now payload)) ⌝ }
+    ensures { λ r. ⌜ r ≡ 0 ⌝ }
+{
+    let mut framed = [0u8; 256];
+    let made = frame::build_secure_response_frame(
+        scheme,
+        code,
+        number,
+        id,
+        credentials,
+        payload,
+        &mut framed,
+    );
+    let n = made.length as usize;
+    let mut opened = [0u8; 256];
+    let got = frame::decrypt_response(scheme, code, id, credentials, &framed[2..n], &mut opened);
+    compared(got, opened, number, payload)
 }
 
 // Whether a command can be sealed, by lengths of credentials, ID and payload.
@@ -123,7 +175,7 @@ fn is_sealable(scheme: u8, credentials: usize, id: usize, payload: usize) -> boo
     true
 }
 
-// A command under credentials, where it can be sealed.
+// A command and a response under credentials, where they can be sealed.
 fn play_command(
     scheme: u8,
     code: u8,
@@ -137,7 +189,11 @@ fn play_command(
     if !is_sealable(scheme, credentials.len(), id.len(), payload.len()) {
         return 0;
     }
-    exchange_command(scheme, code, number, id, credentials, payload)
+    let commanded = exchange_command(scheme, code, number, id, credentials, payload);
+    if commanded != 0 {
+        return commanded;
+    }
+    exchange_response(scheme, code, number, id, credentials, payload)
 }
 
 // The session keys of random 2, then Challenge 3C.
@@ -148,7 +204,7 @@ fn aes_credentials(random_2: &[u8], challenge_3c: &[u8]) -> [u8; 36] {
     credentials
 }
 
-// A command under the session keys of random 2, for AES, or under the session key.
+// A command and a response under the session keys of random 2, for AES, or under the session key.
 fn play_session(
     scheme: u8,
     code: u8,
@@ -193,8 +249,8 @@ fn play_derived(
     exchange_random_2(scheme, keys, idm, challenge_3c, random_2)
 }
 
-// A reader and a card: derivation, both exchanges, and a command from one to the other. The answer is that of the first call that refuses what
-// the other end made, and it is 0: none does. Inputs that a derivation or a fixed length refuses are not played.
+// A reader and a card: derivation, both exchanges, a command and a response. The answer is that of the first call that refuses what the other
+// end made, or gives another number or payload, and it is 0: none does. Inputs that a derivation or a fixed length refuses are not played.
 pub fn play(
     mark: u8,
     keys: &[u8],

@@ -34,16 +34,19 @@ slice-aggregate-decrypt-response-2 c = search needs
 decrypt-response-requires : tie.Need-decrypt-response-requires
 decrypt-response-requires c κs = search needs
 
+compared-requires : tie.Need-compared-requires
+compared-requires c κs = search needs
+
 returns : tie.Need-returns
 returns c =
-    let d = c .before in
+    let d = c .before .before in
     let m = d .before .before .before .before .before in
     let k = m .before .before in
     let st = k .before .before .before in
     let a = st .args in
-    plays-command (a .scheme) (a .code) (a .number) (a .id .now) (a .credentials .now) (a .payload .now) (λ j. omega (arith, k .before .shared-slice-known2 .given j))
+    c .compared .ensures (plays-command (a .scheme) (a .code) (a .number) (a .id .now) (a .credentials .now) (a .payload .now) (λ j. omega (arith, k .before .shared-slice-known2 .given j))
     (λ j. omega (arith, k .before .before .shared-slice-known .given j)) (λ j. omega (arith, k .shared-slice-known3 .given j)) (omega (arith, st .fits)) (omega (arith, st .fits)) (st .pre)
-    _ _ _ (m .encrypt-command .ensures .length-is) (m .encrypt-command .ensures .output) (d .decrypt-response .ensures .number)
+    _ _ _ _ (m .encrypt-command .ensures .length-is) (m .encrypt-command .ensures .output) (d .decrypt-response .ensures))
 
 pub exchange-command-spec : {M : Type 1} → statement M
 exchange-command-spec =
@@ -56,4 +59,5 @@ exchange-command-spec =
     slice-aggregate-decrypt-response
     slice-aggregate-decrypt-response-2
     decrypt-response-requires
+    compared-requires
     returns)

@@ -15,6 +15,19 @@ exchange-command-requires c κs = c .before .is-sealable .ensures (not-false _ (
 returns-2 : tie.Need-returns-2
 returns-2 c = search needs
 
+exchange-response-requires : tie.Need-exchange-response-requires
+exchange-response-requires c κs = let i = c .before .before in i .before .is-sealable .ensures (not-false _ (i .if1 .left))
+
+returns-3 : tie.Need-returns-3
+returns-3 c = search needs
+
 pub play-command-spec : {M : Type 1} → statement M
 play-command-spec =
-    tie.close (tie.spec is-sealable-requires returns exchange-command-requires returns-2)
+    tie.close
+    (tie.spec
+    is-sealable-requires
+    returns
+    exchange-command-requires
+    returns-2
+    exchange-response-requires
+    returns-3)
