@@ -10,11 +10,12 @@ use lib.ListN.{length, take, drop, length-drop}
 use lib.Seq.{take-all}
 use Rattle.cipher.specs.Fips46.{desDecrypt}
 use Rattle.cipher.specs.Fold.{underEachBack}
-use Rattle.frame.specs.Outcome.{decide, choose}
+use Rattle.frame.specs.Outcome.{decide, choose, refused}
 use Rattle.frame.specs.Delivery.{delivering}
 use Rattle.frame.specs.DesFrame.{macStart, recovered, macHolds, desPlain, idOf, payloadOf, desOpening}
 use Rattle.frame.specs.DesSteps.{openRows, plainRows, desAccepting}
 use Rattle.frame.specs.Guards.{firstOf}
+use Rattle.frame.specs.Response.{checkedDelivering, parsedDelivering}
 use Rattle.frame.specs.Tests.{isnt, both, same}
 use Rattle.frame.proofs.Decides.{AllFalse, numbered, first-passes, either-false, is-number}
 use Rattle.frame.proofs.Pieces.{no-longer}
@@ -47,22 +48,25 @@ pub short-payload : (plain p : List ℕ) → p ≡ payloadOf plain → length pl
 unfolding payloadOf
 short-payload plain p e h = no-longer (length plain - 16) 256 (drop 8 plain) p e (rw length-drop (omega arith))
 
-module _ (code : ℕ) (id plain : List ℕ) where
-  pub bad-mac : macHolds code plain ≡ false → 13 ≡ firstOf (plainRows code id plain)
-  unfolding plainRows firstOf choose isnt
-  bad-mac h = rw h
+-- the row of the MAC, before what is left of an opening
+module _ (code room : ℕ) (id plain : List ℕ) where
+  pub wrong-mac : macHolds code plain ≡ false → desAccepting code id plain room ≡ refused 13
+  unfolding desAccepting plainRows decide choose isnt
+  wrong-mac h = rw h
 
-  pub bad-id : macHolds code plain ≡ true → same (idOf plain) id ≡ false → 14 ≡ firstOf (plainRows code id plain)
-  unfolding plainRows firstOf choose isnt
-  bad-id h i = rw (h, i)
+  pub right-mac : macHolds code plain ≡ true → desAccepting code id plain room ≡ parsedDelivering id plain room
+  unfolding desAccepting parsedDelivering checkedDelivering plainRows decide choose isnt
+  right-mac h = rw h
 
-  pub good-plain : macHolds code plain ≡ true → same (idOf plain) id ≡ true → 0 ≡ firstOf (plainRows code id plain)
-  unfolding plainRows firstOf choose isnt
-  good-plain h i = rw (h, i)
+-- the row of the ID, before the delivery
+module _ (number room : ℕ) (found payload id : List ℕ) where
+  pub wrong-id : same found id ≡ false → checkedDelivering number found payload id room ≡ refused 14
+  unfolding checkedDelivering decide choose isnt
+  wrong-id h = rw h
 
-  pub plain-passes : (k : ℕ) → k ≡ firstOf (plainRows code id plain) → k ≡ 0 → AllFalse (plainRows code id plain)
-  unfolding plainRows numbered both
-  plain-passes k e z = first-passes (plainRows code id plain) k refl e z
+  pub right-id : same found id ≡ true → checkedDelivering number found payload id room ≡ delivering number payload room
+  unfolding checkedDelivering decide choose isnt
+  right-id h = rw h
 
 -- ---- the guard
 

@@ -16,8 +16,10 @@ pub mod Packs
 pub mod Pads
 pub mod Pieces
 pub mod Refusals
+pub mod Responses
 pub mod Rooms
 pub mod Sames
 pub mod Schemes
 pub mod Sealing
+pub mod Six
 pub mod Trims

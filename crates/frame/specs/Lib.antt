@@ -11,6 +11,7 @@ pub mod Outcome
 pub mod Package
 pub mod Packed
 pub mod Padding
+pub mod Response
 pub mod Scheme
 pub mod Tests
 pub mod Trimmed

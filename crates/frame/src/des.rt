@@ -10,9 +10,10 @@ ghost use Prim.Native.Nat.{_+_, _-_, _%_, _≤_};
 ghost use lib.ListN.{length, take};
 ghost use Rattle.frame.specs.Outcome.{Meets, over};
 ghost use Rattle.frame.specs.Padding.{padCount, pad};
-ghost use Rattle.frame.specs.DesFrame.{macStart, desMac, macHolds, desSeal, header, desSealed, desSize, desSealing, desPlain, desOpening};
+ghost use Rattle.frame.specs.DesFrame.{macStart, desMac, macHolds, desSeal, header, desSealed, desSize, desSealing, desPlain, payloadOf, desOpening};
 ghost use Rattle.frame.specs.Guards.{firstOf};
-ghost use Rattle.frame.specs.DesSteps.{sealRows, openRows, plainRows, desAccepting};
+ghost use Rattle.frame.specs.DesSteps.{sealRows, openRows, desAccepting};
+ghost use Rattle.frame.specs.Response.{headerOf, Parses, checkedDelivering, parsedDelivering};
 ghost use Rattle.frame.specs.Authentication2.{auth2SealRows, auth2Sealing, auth2OpenRows, auth2Accepting, auth2Opening};
 ghost use Rattle.frame.specs.Scheme.{responding};
 ghost use Rattle.frame.specs.Trimmed.{trimCount, trim, trimmedOpening};
@@ -109,32 +110,103 @@ pub fn encrypt_authentication2_payload(key: &[u8], payload: &[u8], out: &mut [u8
     }
 }
 
-// 13 and 14 of opening; 0 to go on.
-fn check_plain_des(code: u8, id: &[u8], plain: &[u8]) -> u8
+// What a response says before its payload.
+pub(crate) struct SecureResponseHeader {
+    pub(crate) transaction_number: u16,
+    pub(crate) transaction_id: [u8; 6],
+}
+
+// A parsed response: its header, and the payload inside the plain text, without the MAC. Functions with it as parameter or answer are
+// proved by hand (docs/DECISIONS.md), so all that decides something stands in functions without it.
+pub(crate) struct SecureResponse<'a> {
+    pub(crate) header: SecureResponseHeader,
+    pub(crate) payload: &'a [u8],
+}
+
+// The header that a plain text starts with.
+fn parse_header(plain: &[u8]) -> SecureResponseHeader
     requires { ⌜ 8 ≤ length (now plain) ⌝ }
-    ensures { λ r. ⌜ r ≡ firstOf (plainRows code (now (id .entry)) (now (plain .entry))) ⌝ }
+    ensures { λ r. ⌜ r ≡ headerOf (now (plain .entry)) ⌝ }
 {
-    if !check_packet_mac_des(plain, code) {
-        return 13;
+    let transaction_number = number::transaction_number(plain);
+    let transaction_id = fixed::six(&plain[2..8]);
+    SecureResponseHeader {
+        transaction_number,
+        transaction_id,
     }
-    if !cipher::ct_eq(&plain[2..8], id) {
-        return 14;
+}
+
+// The payload inside a plain text that ends with its MAC.
+fn parse_payload(plain: &[u8]) -> &[u8]
+    requires { ⌜ 16 ≤ length (now plain) ⌝ }
+    ensures { λ r. ⌜ now r ≡ payloadOf (now (plain .entry)) ⌝ }
+{
+    strip_des_response_mac(&plain[8..])
+}
+
+// 14, else the payload goes out.
+fn deliver_checked(
+    transaction_number: u16,
+    transaction_id: [u8; 6],
+    payload: &[u8],
+    id: [u8; 6],
+    out: &mut [u8],
+) -> Answer
+    requires { ⌜ length (now payload) ≤ 256 ⌝ }
+    ensures { λ r. ⌜ Meets (checkedDelivering «transaction_number» «transaction_id» (now (payload .entry)) id (length (now (out .entry)))) r (now (out .entry)) (now (out .exit)) ⌝ }
+{
+    if !cipher::ct_eq(&transaction_id, &id) {
+        return answer::refused(14);
     }
-    0
+    deliver::deliver(transaction_number, payload, out)
+}
+
+impl<'a> SecureResponse<'a> {
+    // The response in a plain text that ends with its MAC.
+    pub(crate) fn parse(plain: &'a [u8]) -> Self
+        requires { ⌜ 16 ≤ length (now plain) ⌝ }
+        ensures { λ r. ⌜ Parses (now (plain .entry)) r ⌝ }
+    {
+        SecureResponse {
+            header: parse_header(plain),
+            payload: parse_payload(plain),
+        }
+    }
+
+    // Takes the response apart, and delivers it.
+    pub(crate) fn deliver<'b>(self, id: [u8; 6], out: &'b mut [u8]) -> Answer
+        requires { ⌜ length (now (self .payload)) ≤ 256 ⌝ }
+        ensures { λ r. ⌜ Meets (checkedDelivering (self .entry .header .«transaction_number») (self .entry .header .«transaction_id») (now (self .entry .payload)) id (length (now (out .entry)))) r (now (out .entry)) (now (out .exit)) ⌝ }
+    {
+        deliver_checked(
+            self.header.transaction_number,
+            self.header.transaction_id,
+            self.payload,
+            id,
+            out,
+        )
+    }
+}
+
+// The same by plain parameters: whoever calls this is proved in the common way.
+fn parse_and_deliver<'a, 'b>(id: [u8; 6], plain: &'a [u8], out: &'b mut [u8]) -> Answer
+    requires { ⌜ (16 ≤ length (now plain)) × (length (now plain) ≤ 256) ⌝ }
+    ensures { λ r. ⌜ Meets (parsedDelivering id (now (plain .entry)) (length (now (out .entry)))) r (now (out .entry)) (now (out .exit)) ⌝ }
+{
+    SecureResponse::parse(plain).deliver(id, out)
 }
 
 // Opens a plain text that ends with its MAC.
 fn accept_des(code: u8, id: &[u8], plain: &[u8], out: &mut [u8]) -> Answer
+    requires { ⌜ length (now id) ≡ 6 ⌝ }
     requires { ⌜ 16 ≤ length (now plain) ⌝ }
     requires { ⌜ length (now plain) ≤ 256 ⌝ }
     ensures { λ r. ⌜ Meets (desAccepting code (now (id .entry)) (now (plain .entry)) (length (now (out .entry)))) r (now (out .entry)) (now (out .exit)) ⌝ }
 {
-    let refusal = check_plain_des(code, id, plain);
-    if refusal != 0 {
-        return answer::refused(refusal);
+    if !check_packet_mac_des(plain, code) {
+        return answer::refused(13);
     }
-    let payload = strip_des_response_mac(&plain[8..]);
-    deliver::deliver(number::transaction_number(plain), payload, out)
+    parse_and_deliver(fixed::six(id), plain, out)
 }
 
 // 17, 10, 11 and 12 of opening; 0 to go on.

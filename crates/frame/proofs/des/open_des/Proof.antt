@@ -54,7 +54,7 @@ accept-des-requires c κs =
     let i = c .before .before .before .before .before .before in
     let p = open-passes _ _ _ _ (i .before .guard-open-des .ensures) (i .if1 .left) in
     let h = p .short in
-    rw (← slice-aggregate-accept-des (c .before)) (p .enough, omega arith)
+    (p .six, rw (← slice-aggregate-accept-des (c .before)) (p .enough, omega arith))
 
 same-length : tie.Need-same-length
 same-length c = search needs

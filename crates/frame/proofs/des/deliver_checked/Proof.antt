@@ -1,0 +1,55 @@
+use mathlib.Core.Path.{sym, _∙_}
+use borrow.Author.Tests.{not-true, not-false}
+use lib.ListN.{length}
+use Rattle.frame.proofs.Decides.{refused-meets}
+use Rattle.frame.proofs.DesOpens.{wrong-id, right-id}
+use Rattle.frame.proofs.Sames.{same-is}
+use borrow.Author.Needs.{needs}
+use Rattle.frame.proofs.des.deliver_checked.Statement.{statement}
+use Rattle.frame.proofs.des.deliver_checked.Tie as tie
+
+slice-aggregate-ct-eq : tie.Need-slice-aggregate-ct-eq
+slice-aggregate-ct-eq c = search needs
+
+slice-aggregate-ct-eq-2 : tie.Need-slice-aggregate-ct-eq-2
+slice-aggregate-ct-eq-2 c = search needs
+
+ct-eq-requires : tie.Need-ct-eq-requires
+ct-eq-requires c κs = search needs
+
+refused-requires : tie.Need-refused-requires
+refused-requires c κs = search needs
+
+returns : tie.Need-returns
+returns c =
+    let i = c .before in
+    let q = i .before in
+    let a = q .before .before .before .before .before .args in
+    rw (wrong-id (a .transaction-number) (length (a .out .now)) (a .t2) (a .payload .now) (a .t4) (sym (same-is _ _ _ (q .ct-eq .ensures)) ∙ not-true _ (i .if1 .taken))) (refused-meets 14 _ (a .out .now) (c .refused .ensures))
+
+deliver-requires : tie.Need-deliver-requires
+deliver-requires c κs = search needs
+
+same-length : tie.Need-same-length
+same-length c = search needs
+
+returns-2 : tie.Need-returns-2
+returns-2 c =
+    let d = c .before .before in
+    let i = d .before .before in
+    let q = i .before in
+    let a = q .before .before .before .before .before .args in
+    rw (right-id (a .transaction-number) (length (a .out .now)) (a .t2) (a .payload .now) (a .t4) (sym (same-is _ _ _ (q .ct-eq .ensures)) ∙ not-false _ (i .if1 .left))) (d .deliver .ensures)
+
+pub deliver-checked-spec : {M : Type 1} → statement M
+deliver-checked-spec =
+    tie.close
+    (tie.spec
+    slice-aggregate-ct-eq
+    slice-aggregate-ct-eq-2
+    ct-eq-requires
+    refused-requires
+    returns
+    deliver-requires
+    same-length
+    returns-2)

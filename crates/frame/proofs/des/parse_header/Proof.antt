@@ -1,0 +1,35 @@
+use mathlib.Core.Path.{ap₂}
+use Prim.Native.Nat.{ℕ}
+use mathlib.Core.List.{List}
+use Rattle.frame.specs.DesFrame.{idOf}
+use Rattle.frame.specs.Response.{headerOf}
+use Rattle.frame.specs.declared.des.SecureResponseHeader.{SecureResponseHeader}
+use borrow.Author.Needs.{needs}
+use Rattle.frame.proofs.des.parse_header.Statement.{statement}
+use Rattle.frame.proofs.des.parse_header.Tie as tie
+
+transaction-number-requires : tie.Need-transaction-number-requires
+transaction-number-requires c κs = search needs
+
+sub-six : tie.Need-sub-six
+sub-six c = search needs
+
+part-six-start : tie.Need-part-six-start
+part-six-start c = search needs
+
+part-six-end : tie.Need-part-six-end
+part-six-end c = search needs
+
+six-requires : tie.Need-six-requires
+six-requires c κs = search needs
+
+returns : tie.Need-returns
+unfolding headerOf idOf
+returns c =
+    let h : ℕ → List ℕ → SecureResponseHeader = λ n i. record { «transaction_number» = n; «transaction_id» = i } in
+    ap₂ h (c .before .before .transaction-number .ensures) (c .six .ensures)
+
+pub parse-header-spec : {M : Type 1} → statement M
+parse-header-spec =
+    tie.close
+    (tie.spec transaction-number-requires sub-six part-six-start part-six-end six-requires returns)

@@ -1,0 +1,29 @@
+-- A parsed DES response, and its delivery. Assumes nothing.
+use Prim.Native.Nat.{ℕ}
+use mathlib.Core.Path.{_≡_}
+use mathlib.Core.List.{List, [], _∷_}
+use denote.Ref.{now}
+use Rattle.frame.specs.Number.{numberOf}
+use Rattle.frame.specs.Outcome.{Outcome, row, decide}
+use Rattle.frame.specs.Delivery.{delivering}
+use Rattle.frame.specs.DesFrame.{idOf, payloadOf}
+use Rattle.frame.specs.Tests.{isnt, same}
+use Rattle.frame.specs.declared.des.SecureResponseHeader.{SecureResponseHeader}
+use Rattle.frame.specs.declared.des.SecureResponse.{SecureResponse}
+
+-- the header that a plain text starts with
+unfoldable pub headerOf : List ℕ → SecureResponseHeader
+headerOf plain = record { «transaction_number» = numberOf plain; «transaction_id» = idOf plain }
+
+-- r is the response in a plain text with its MAC: it holds the header, and refers to the payload
+pub record Parses (plain : List ℕ) (r : SecureResponse) : Type 0 where
+  pub header : r .header ≡ headerOf plain
+  pub payload : now (r .payload) ≡ payloadOf plain
+
+-- number, ID and payload of a response, where `id` is the session's
+unfoldable pub checkedDelivering : ℕ → List ℕ → List ℕ → List ℕ → ℕ → Outcome
+checkedDelivering number found payload id room = decide (row 14 (isnt (same found id)) ∷ []) (delivering number payload room)
+
+-- the same of the response in a plain text
+unfoldable pub parsedDelivering : List ℕ → List ℕ → ℕ → Outcome
+parsedDelivering id plain room = checkedDelivering (numberOf plain) (idOf plain) (payloadOf plain) id room
