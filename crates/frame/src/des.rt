@@ -10,10 +10,10 @@ ghost use Prim.Native.Nat.{_+_, _-_, _%_, _≤_};
 ghost use lib.ListN.{length, take};
 ghost use Rattle.frame.specs.Outcome.{Meets, over};
 ghost use Rattle.frame.specs.Padding.{padCount, pad};
-ghost use Rattle.frame.specs.DesFrame.{macStart, desMac, macHolds, desSeal, header, desSealed, desSize, desSealing, desPlain, payloadOf, desOpening};
+ghost use Rattle.frame.specs.DesFrame.{macStart, desMac, macHolds, desSeal, header, desSealed, desSize, desSealing, desPlain, desOpening};
 ghost use Rattle.frame.specs.Guards.{firstOf};
 ghost use Rattle.frame.specs.DesSteps.{sealRows, openRows, desAccepting};
-ghost use Rattle.frame.specs.Response.{headerOf, Parses, checkedDelivering, parsedDelivering};
+ghost use Rattle.frame.specs.Response.{headerOf, PayloadIn, Parses, checkedDelivering, parsedDelivering};
 ghost use Rattle.frame.specs.Authentication2.{auth2SealRows, auth2Sealing, auth2OpenRows, auth2Accepting, auth2Opening};
 ghost use Rattle.frame.specs.Scheme.{responding};
 ghost use Rattle.frame.specs.Trimmed.{trimCount, trim, trimmedOpening};
@@ -139,7 +139,7 @@ fn parse_header(plain: &[u8]) -> SecureResponseHeader
 // The payload inside a plain text that ends with its MAC.
 fn parse_payload(plain: &[u8]) -> &[u8]
     requires { ⌜ 16 ≤ length (now plain) ⌝ }
-    ensures { λ r. ⌜ now r ≡ payloadOf (now (plain .entry)) ⌝ }
+    ensures { λ r. ⌜ PayloadIn (plain .entry) r ⌝ }
 {
     strip_des_response_mac(&plain[8..])
 }
@@ -165,7 +165,7 @@ impl<'a> SecureResponse<'a> {
     // The response in a plain text that ends with its MAC.
     pub(crate) fn parse(plain: &'a [u8]) -> Self
         requires { ⌜ 16 ≤ length (now plain) ⌝ }
-        ensures { λ r. ⌜ Parses (now (plain .entry)) r ⌝ }
+        ensures { λ r. ⌜ Parses (plain .entry) r ⌝ }
     {
         SecureResponse {
             header: parse_header(plain),
@@ -292,7 +292,7 @@ pub fn open_trimmed_des(code: u8, id: &[u8], key: &[u8], data: &[u8], out: &mut 
 // A payload without the MAC that follows it.
 fn strip_des_response_mac(payload_with_mac: &[u8]) -> &[u8]
     requires { ⌜ 8 ≤ length (now «payload_with_mac») ⌝ }
-    ensures { λ r. ⌜ now r ≡ take (length (now («payload_with_mac» .entry)) - 8) (now («payload_with_mac» .entry)) ⌝ }
+    ensures { λ r. ⌜ (now r ≡ take (length (now («payload_with_mac» .entry)) - 8) (now («payload_with_mac» .entry))) × (r .ptr ≡ «payload_with_mac» .entry .ptr) ⌝ }
 {
     let end = payload_with_mac.len() - 8;
     &payload_with_mac[..end]

@@ -39,7 +39,7 @@ deliver-requires c κs =
     let s = c .before in
     let a = s .before .before .before .before .before .before in
     let p = a .args .plain .now in
-    no-longer (length p - 8) 256 p _ (s .strip-des-response-mac .ensures) (a .pre)
+    no-longer (length p - 8) 256 p _ (s .strip-des-response-mac .ensures .0) (a .pre)
 
 same-length : tie.Need-same-length
 same-length c = search needs
@@ -51,7 +51,7 @@ returns-3 c =
     let m = s .before .before in
     let i = m .before in
     let a = i .before .before .before .args in
-    rw (right-mac (a .plain .now) (length (a .out .now)) (i .if1 .left) (sym (m .check-packet-mac-des .ensures) ∙ not-false _ (s .before .if2 .left))) (rw (s .strip-des-response-mac .ensures) at (d .deliver .ensures))
+    rw (right-mac (a .plain .now) (length (a .out .now)) (i .if1 .left) (sym (m .check-packet-mac-des .ensures) ∙ not-false _ (s .before .if2 .left))) (rw (s .strip-des-response-mac .ensures .0) at (d .deliver .ensures))
 
 pub accept-authentication2-spec : {M : Type 1} → statement M
 accept-authentication2-spec =

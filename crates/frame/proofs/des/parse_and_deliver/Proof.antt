@@ -122,17 +122,17 @@ module _ {M : Type 1} (𝓤 : URA M) (H : Heap 𝓤) (A : Atoms 𝓤) (W : Given
       nothing ! $ move ! (1 ∷ 0 ∷ []) $ fjoin ! $ move ! (2 ∷ 4 ∷ []) $ join ! $ move ! (0 ∷ 1 ∷ []) $ use2 W (raw (P 𝓤 H A mem run .pre to-parse)) asked-parse $
       frame ! $ move ! (1 ∷ 0 ∷ []) $ frame ! $ done !
 
-  parse-said : (d : SecureResponse) → ent 𝓤 (ensured 𝓤 H A p.ended (p.clauses 𝓤 H A mem run) (κ, tt) (t, tt) tt d) (fact 𝓤 (Parses (now t) d))
-  parse-said d = exE 𝓤 _ (λ ws. snd∗ 𝓤 (sem 𝓤 H A (lasts p.ended (κ, tt) (t, tt) ws)) (fact 𝓤 (Parses (now t) d)))
+  parse-said : (d : SecureResponse) → ent 𝓤 (ensured 𝓤 H A p.ended (p.clauses 𝓤 H A mem run) (κ, tt) (t, tt) tt d) (fact 𝓤 (Parses t d))
+  parse-said d = exE 𝓤 _ (λ ws. snd∗ 𝓤 (sem 𝓤 H A (lasts p.ended (κ, tt) (t, tt) ws)) (fact 𝓤 (Parses t d)))
 
   -- the call of `deliver`, at the response d with the machine value u
   abbrev to-deliver : SecureResponse → Val → G 𝓤 H A mem run .Ghost
   to-deliver d u = ((κs, qs, tt, (d, (id, (x, tt))), (u ∷ [], (six id ∷ [], (s ∷ [], tt)))), tt)
 
-  asked-deliver : (d : SecureResponse) (u : Val) → Parses (now t) d → ent 𝓤 (onEntry 𝓤 H A g.signature κs qs (d, (id, (x, tt))) (u ∷ [], (six id ∷ [], (s ∷ [], tt)))) (G 𝓤 H A mem run .pre (to-deliver d u))
+  asked-deliver : (d : SecureResponse) (u : Val) → Parses t d → ent 𝓤 (onEntry 𝓤 H A g.signature κs qs (d, (id, (x, tt))) (u ∷ [], (six id ∷ [], (s ∷ [], tt)))) (G 𝓤 H A mem run .pre (to-deliver d u))
   asked-deliver d u e =
       qed W ((‵ (flft κ q) ⊛ ‵ (flft κ′ q′) ⊛ ‵ ftrue) ∷ ‵ (owns (B κs ∷ Six ∷ MutSlice (named 1) κ′ u8 ∷ []) (d, (id, (x, tt))) (u ∷ [], (six id ∷ [], (s ∷ [], tt)))) ∷ []) ∵
-      says ! (parsed-short (now t) d e (fits .1)) $ frame ! $ done !
+      says ! (parsed-short t d e (fits .1)) $ frame ! $ done !
 
   exits : (r : Answer) (u : Val) (zs : List ℕ) → outcome.Meets (parsedDelivering id (now t) (length (now x))) r (now x) zs → length zs ≡ length (x .now)
       → ent 𝓤 (⋆ 𝓤 H A (‵ (S.the-row .own r (u ∷ [])) ∷ (‵ (flft κ q) ⊛ ‵ (flft κ′ q′) ⊛ ‵ ftrue) ∷ ‵ (finally u8 (x .name) zs) ∷ [])) (Post u)
@@ -154,7 +154,7 @@ module _ {M : Type 1} (𝓤 : URA M) (H : Heap 𝓤) (A : Atoms 𝓤) (W : Given
         -- [what it asks; κ′'s token; what the output owns; _6; …]
         calls-at ! fm (P 𝓤 H A mem run) known-parse to-parse (and-then ! (load ! (from ! (stop !)) (look ! 11 refl)) (no-more !)) (λ u.
         use1 W (later (some (λ (d : SecureResponse). ((‵ (flft κ q) ⊛ ‵ ftrue) ⊛ ‵ (B κs .own d (u ∷ []))) ⊛ raw (ensured 𝓤 H A p.ended (p.clauses 𝓤 H A mem run) (κ, tt) (t, tt) tt d)))) (id⊢ 𝓤 _) $ await ! tt $ pick ! (λ d.
-        split ! $ move ! (1 ∷ []) $ use1 W (raw (fact 𝓤 (Parses (now t) d))) (parse-said d) $ heard ! (Parses (now t) d) (λ e. split ! $ move ! (1 ∷ []) $
+        split ! $ move ! (1 ∷ []) $ use1 W (raw (fact 𝓤 (Parses t d))) (parse-said d) $ heard ! (Parses t d) (λ e. split ! $ move ! (1 ∷ []) $
         -- [what the response owns; κ's token; κ′'s; what the output owns; _6; …]: _k stands at 4 + 2 * (6 - k)
         peeks ! (B κs) (Is (B κs)) (shows 𝓤 H A (B κs)) d (u ∷ []) (λ is-d.
         land ! (from ! (stop !)) (init ! 8 refl (LL.lawful (T.the-type αᵉ) (T′.the-laws αᵉ) 𝓤 H A W .typed d _ is-d .0)) $
@@ -176,7 +176,7 @@ module _ {M : Type 1} (𝓤 : URA M) (H : Heap 𝓤) (A : Atoms 𝓤) (W : Given
         land ! (from ! (stop !)) (init ! 15 refl (LL.lawful S.the-type S′.the-laws 𝓤 H A W .typed r _ is-r .0)) $
         returns ! (look ! 15 refl) $ forget ! 3 refl $ forget ! 5 refl $ forget ! 7 refl $ forget ! 9 refl $ forget ! 11 refl $ forget ! 13 refl $ forget ! 15 refl $
         move ! (15 ∷ 16 ∷ []) $ free1 ! $ move ! (13 ∷ 14 ∷ []) $ free1 ! $ move ! (11 ∷ 12 ∷ []) $ free1 ! $ move ! (9 ∷ 10 ∷ []) $ free1 ! $ move ! (7 ∷ 8 ∷ []) $ free1 ! $ move ! (5 ∷ 6 ∷ []) $ free1 ! $ move ! (3 ∷ 4 ∷ []) $ free1 ! $ free0 ! $
-        by ! (exits r u′ (zs .1 .1 .0) (parsed-meets id (now t) (now x) (zs .1 .1 .0) d r e e′) l))))))))))))))))))
+        by ! (exits r u′ (zs .1 .1 .0) (parsed-meets t d e id (now x) (zs .1 .1 .0) r e′) l))))))))))))))))))
 
 module _ {M : Type 1} (𝓤 : URA M) (H : Heap 𝓤) (A : Atoms 𝓤) (W : Given 𝓤 H A) (mem : Memory → SProp 𝓤) (run : Routine → Fun 𝓤) where
   f-walks : (C : Calls 𝓤 H) (Λ : Loops 𝓤 H) → FmC 𝓤 H (W .laws) C → Triple 𝓤 (C #parse) (P 𝓤 H A mem run) → Triple 𝓤 (C #deliver) (G 𝓤 H A mem run) → Walks 𝓤 H A f.ended stayed (WpFn 𝓤 H C Λ code.function) (f.clauses 𝓤 H A mem run)

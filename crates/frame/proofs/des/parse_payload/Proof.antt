@@ -16,7 +16,7 @@ strip-des-response-mac-requires : tie.Need-strip-des-response-mac-requires
 strip-des-response-mac-requires c κs = search needs
 
 returns : tie.Need-returns
-returns c = stripped (c .before .before .before .args .plain .now) _ (c .strip-des-response-mac .ensures)
+returns c = record { reads = stripped (c .before .before .before .args .plain .now) _ (c .strip-des-response-mac .ensures .0); stands = c .strip-des-response-mac .ensures .1 }
 
 pub parse-payload-spec : {M : Type 1} → statement M
 parse-payload-spec =

@@ -25,7 +25,7 @@ use sound.WpLaws.{FmC, fmOf, WpFn-mono}
 use denote.RattleType.{owns}
 use denote.Laws.{Is, shows}
 use denote.Builtin.{u8}
-use denote.Ref.{RefT, NamedLft, now}
+use denote.Ref.{RefT, NamedLft}
 use denote.Signature.{plain, namedLft, shrSliceOf}
 use denote.Slice.{sliceVal, sliceTy, ShrSlice, slice-vals, shr-slice-tells, shr-slice-lawful, shr-slice-copy}
 use denote.Steps.{only, peeks, heard, nothing}
@@ -39,8 +39,7 @@ use denote.Triple.Spec.{Meets, tripleOf}
 use denote.Triple.Table.{entered, cited}
 use denote.Triple.Walked.{says, needs, Stays, stay-dropped, walkOf, goes-dropped, Walks, ends-at, walked, walk-meets}
 use denote.Exit.{yes}
-use Rattle.frame.specs.DesFrame.{payloadOf}
-use Rattle.frame.specs.Response.{headerOf}
+use Rattle.frame.specs.Response.{headerOf, PayloadIn}
 use Rattle.frame.specs.declared.des.SecureResponseHeader.{SecureResponseHeader}
 use Rattle.frame.specs.declared.des.SecureResponse.{SecureResponse}
 use Rattle.frame.proofs.des.SecureResponseHeader as HT
@@ -120,14 +119,14 @@ module _ {M : Type 1} (𝓤 : URA M) (H : Heap 𝓤) (A : Atoms 𝓤) (W : Given
   goes-payload : ent 𝓤 (⋆ 𝓤 H A ((‵ (flft κ q) ⊛ ‵ ftrue) ∷ ‵ (Shr s) ∷ [])) (P 𝓤 H A mem run .pre to-payload)
   goes-payload = qed W ((‵ (flft κ q) ⊛ ‵ ftrue) ∷ ‵ (Shr s) ∷ []) ∵ says ! enough $ frame ! $ nothing ! $ move ! (1 ∷ 0 ∷ []) $ fjoin ! $ done !
 
-  payload-said : (r : RefT (List ℕ)) → ent 𝓤 (ensured 𝓤 H A p.ended (p.clauses 𝓤 H A mem run) (κ, tt) a tt r) (fact 𝓤 (now r ≡ payloadOf (s .now)))
-  payload-said r = exE 𝓤 _ (λ ws. snd∗ 𝓤 (sem 𝓤 H A (lasts p.ended (κ, tt) a ws)) (fact 𝓤 (now r ≡ payloadOf (s .now))))
+  payload-said : (r : RefT (List ℕ)) → ent 𝓤 (ensured 𝓤 H A p.ended (p.clauses 𝓤 H A mem run) (κ, tt) a tt r) (fact 𝓤 (PayloadIn s r))
+  payload-said r = exE 𝓤 _ (λ ws. snd∗ 𝓤 (sem 𝓤 H A (lasts p.ended (κ, tt) a ws)) (fact 𝓤 (PayloadIn s r)))
 
   -- the response that is made
   abbrev made : SecureResponseHeader → RefT (List ℕ) → SecureResponse
   made h r = record { header = h; payload = r }
 
-  exits : (h : SecureResponseHeader) (r : RefT (List ℕ)) → h ≡ headerOf (s .now) → now r ≡ payloadOf (s .now)
+  exits : (h : SecureResponseHeader) (r : RefT (List ℕ)) → h ≡ headerOf (s .now) → PayloadIn s r
       → ent 𝓤 (⋆ 𝓤 H A (‵ (Shr r) ∷ (‵ (flft κ q) ⊛ ‵ ftrue) ∷ ‵ (HT.the-row .own h (valH h ∷ [])) ∷ [])) (Post (valT (made h r)))
   exits h r e e′ =
       qed W (‵ (Shr r) ∷ (‵ (flft κ q) ⊛ ‵ ftrue) ∷ ‵ (HT.the-row .own h (valH h ∷ [])) ∷ []) ∵
@@ -162,7 +161,7 @@ module _ {M : Type 1} (𝓤 : URA M) (H : Heap 𝓤) (A : Atoms 𝓤) (W : Given
         -- [what it asks; what the header owns; _3; …; _2; …; _1; …]
         calls-at ! fm (P 𝓤 H A mem run) known-payload to-payload (and-then ! (load ! (from ! (stop !)) (look ! 6 refl)) (no-more !)) (λ u′.
         use1 W (later (some (λ (r : RefT (List ℕ)). ((‵ (flft κ q) ⊛ ‵ ftrue) ⊛ ‵ (ShrSlice (named 0) κ u8 .own r (u′ ∷ []))) ⊛ raw (ensured 𝓤 H A p.ended (p.clauses 𝓤 H A mem run) (κ, tt) a tt r)))) (id⊢ 𝓤 _) $ await ! tt $ pick ! (λ r.
-        split ! $ move ! (1 ∷ []) $ use1 W (raw (fact 𝓤 (now r ≡ payloadOf (s .now)))) (payload-said r) $ heard ! (now r ≡ payloadOf (s .now)) (λ e′. split ! $ move ! (1 ∷ []) $
+        split ! $ move ! (1 ∷ []) $ use1 W (raw (fact 𝓤 (PayloadIn s r))) (payload-said r) $ heard ! (PayloadIn s r) (λ e′. split ! $ move ! (1 ∷ []) $
         -- [what the payload owns; the token; what the header owns; _3; …; _2; …; _1; …; room for _0; …]: _k stands at 3 + 2 * (3 - k)
         peeks ! (ShrSlice (named 0) κ u8) (Is (ShrSlice (named 0) κ u8)) (shows 𝓤 H A (ShrSlice (named 0) κ u8)) r (u′ ∷ []) (λ is-r.
         land ! (from ! (stop !)) (init ! 3 refl (shr-slice-lawful 𝓤 H A W erased κ u8 .typed r (u′ ∷ []) is-r .0)) $
