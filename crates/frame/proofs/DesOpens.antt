@@ -12,7 +12,7 @@ use Rattle.cipher.specs.Fips46.{desDecrypt}
 use Rattle.cipher.specs.Fold.{underEachBack}
 use Rattle.frame.specs.Outcome.{decide, choose, refused}
 use Rattle.frame.specs.Delivery.{delivering}
-use Rattle.frame.specs.DesFrame.{macStart, recovered, macHolds, desPlain, idOf, payloadOf, desOpening}
+use Rattle.frame.specs.DesFrame.{macStart, recovered, macHolds, desPlain, payloadOf, desOpening}
 use Rattle.frame.specs.DesSteps.{openRows, plainRows, desAccepting}
 use Rattle.frame.specs.Guards.{firstOf}
 use Rattle.frame.specs.Response.{checkedDelivering, parsedDelivering}

@@ -23,3 +23,4 @@ pub mod Schemes
 pub mod Sealing
 pub mod Six
 pub mod Trims
+pub mod Walks
