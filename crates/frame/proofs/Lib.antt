@@ -9,6 +9,7 @@ pub mod DesSeals
 pub mod DesTrip
 pub mod Frames
 pub mod Fronts
+pub mod Ids
 pub mod MacBits
 pub mod Overs
 pub mod Packages

@@ -8,14 +8,8 @@ use borrow.Author.Needs.{needs}
 use Rattle.frame.proofs.des.deliver_checked.Statement.{statement}
 use Rattle.frame.proofs.des.deliver_checked.Tie as tie
 
-slice-aggregate-ct-eq : tie.Need-slice-aggregate-ct-eq
-slice-aggregate-ct-eq c = search needs
-
-slice-aggregate-ct-eq-2 : tie.Need-slice-aggregate-ct-eq-2
-slice-aggregate-ct-eq-2 c = search needs
-
-ct-eq-requires : tie.Need-ct-eq-requires
-ct-eq-requires c κs = search needs
+same-id-requires : tie.Need-same-id-requires
+same-id-requires c κs = search needs
 
 refused-requires : tie.Need-refused-requires
 refused-requires c κs = search needs
@@ -24,8 +18,8 @@ returns : tie.Need-returns
 returns c =
     let i = c .before in
     let q = i .before in
-    let a = q .before .before .before .before .before .args in
-    rw (wrong-id (a .transaction-number) (length (a .out .now)) (a .t2) (a .payload .now) (a .t4) (sym (same-is _ _ _ (q .ct-eq .ensures)) ∙ not-true _ (i .if1 .taken))) (refused-meets 14 _ (a .out .now) (c .refused .ensures))
+    let a = q .before .before .before .args in
+    rw (wrong-id (a .transaction-number) (length (a .out .now)) (a .transaction-id) (a .payload .now) (a .id) (sym (same-is _ _ _ (q .same-id .ensures)) ∙ not-true _ (i .if1 .taken))) (refused-meets 14 _ (a .out .now) (c .refused .ensures))
 
 deliver-requires : tie.Need-deliver-requires
 deliver-requires c κs = search needs
@@ -38,16 +32,14 @@ returns-2 c =
     let d = c .before .before in
     let i = d .before .before in
     let q = i .before in
-    let a = q .before .before .before .before .before .args in
-    rw (right-id (a .transaction-number) (length (a .out .now)) (a .t2) (a .payload .now) (a .t4) (sym (same-is _ _ _ (q .ct-eq .ensures)) ∙ not-false _ (i .if1 .left))) (d .deliver .ensures)
+    let a = q .before .before .before .args in
+    rw (right-id (a .transaction-number) (length (a .out .now)) (a .transaction-id) (a .payload .now) (a .id) (sym (same-is _ _ _ (q .same-id .ensures)) ∙ not-false _ (i .if1 .left))) (d .deliver .ensures)
 
 pub deliver-checked-spec : {M : Type 1} → statement M
 deliver-checked-spec =
     tie.close
     (tie.spec
-    slice-aggregate-ct-eq
-    slice-aggregate-ct-eq-2
-    ct-eq-requires
+    same-id-requires
     refused-requires
     returns
     deliver-requires
