@@ -15,7 +15,7 @@ import sys
 # symbols that mean what the kit's libraries say, and nothing else
 SYMBOLS = ["_≡_", "_<_", "_≤_", "length", "take", "drop", "getD", "_++_"]
 # where they come from
-KIT = ("mathlib.", "Prim.", "lib.", "native.", "borrow.", "denote.", "mir.", "types.")
+KIT = ("mathlib.", "Prim.", "lib.", "native.", "borrow.", "denote.", "mir.")
 LAYERS = ["cipher", "frame", "session"]
 # how the definitions of both upper crates say what a call answers: words, not operations
 WORDS = ["Outcome", "Tests", "Guards", "Number", "Packed"]

@@ -17,7 +17,8 @@ use prog.Wp.{Heap, Calls, Loops, WpFn, Tables}
 use ghost.Atoms.{Atoms, sem}
 use contract.Monad.{Fun, fact}
 use contract.Running.{givenOf, tables, tablesOf}
-use types.Kit.{Given, ‵, raw, _⊛_, some, later, _$_, _∵_, !, qed, by, move, drop, use1, use2, use3, split, join, pick, fsplit, fjoin, suffices, frame, await, rewrite, done}
+use types.Kit as kit
+use types.Kit.{Given, ‵, raw, _⊛_, some, later, _$_, _∵_, !, qed, by, move, use1, use2, use3, split, join, pick, fsplit, fjoin, suffices, frame, await, rewrite, done}
 use types.Part.{agg}
 use types.Run.{look, init, forget, stop, from, load, addr, of-opd, and-then, no-more, land, assigns, returns, enter, alloc1, alloc0, params1, pass1, pass0, free1, free0}
 use types.SemTy.{Body}
@@ -95,7 +96,7 @@ module _ {M : Type 1} (𝓤 : URA M) (H : Heap 𝓤) (A : Atoms 𝓤) (W : Given
     walk : Is T.the-row h (session-val h ∷ []) → ent 𝓤 (onEntry 𝓤 H A f.signature tt tt (h, tt) (session-val h ∷ [], tt)) (WpFn 𝓤 H C Λ code.function (session-val h ∷ []) Post)
     walk is =
         let wt = LL.lawful T.the-type T′.the-laws 𝓤 H A W .typed h (session-val h ∷ []) is .0 in
-        qed W (raw (onEntry 𝓤 H A f.signature tt tt (h, tt) (session-val h ∷ [], tt)) ∷ []) ∵ drop ! $ enter ! C Λ code.function (session-val h ∷ []) _ $
+        qed W (raw (onEntry 𝓤 H A f.signature tt tt (h, tt) (session-val h ∷ [], tt)) ∷ []) ∵ kit.drop ! $ enter ! C Λ code.function (session-val h ∷ []) _ $
         alloc1 ! (λ l₀. alloc1 ! (λ l₁. alloc1 ! (λ l₂. alloc1 ! (λ l₃. alloc1 ! (λ l₄. alloc1 ! (λ l₅. alloc0 ! $ params1 ! $ pass1 ! (init ! 8 refl wt) $ pass0 ! $
         -- [_5; …; _4; …; _3; …; _2; …; _1; …; room for _0; …]
         assigns ! (of-opd ! (load ! (from ! (stop !)) (look ! 8 refl))) (from ! (stop !)) (init ! 6 refl wt) $
@@ -107,15 +108,15 @@ module _ {M : Type 1} (𝓤 : URA M) (H : Heap 𝓤) (A : Atoms 𝓤) (W : Given
         calls-at ! fm (Inc 𝓤 H A mem run) known (to-inc α l₂ γ) (and-then ! (load ! (from ! (stop !)) (look ! 4 refl)) (no-more !)) (λ u.
         use1 W (later (some (λ (r : StepAnswer). ((‵ (flft (α ∷ []) fullShare) ⊛ ‵ ftrue) ⊛ ‵ (E.the-row .own r (u ∷ []))) ⊛ raw (ensured 𝓤 H A inc.ended (inc.clauses 𝓤 H A mem run) (α ∷ [], tt) (ref l₂ γ, tt) tt r)))) (id⊢ 𝓤 _) $ await ! tt $ pick ! (λ r.
         split ! $ move ! (1 ∷ []) $ use1 W (some (λ (zs : AuthenticatedContext × Unit {0}). ‵ (lasts inc.ended (α ∷ [], tt) (ref l₂ γ, tt) zs) ⊛ raw (fact 𝓤 (Did r (zs .0))))) (id⊢ 𝓤 _) $ pick ! (λ zs.
-        split ! $ move ! (1 ∷ []) $ heard ! (Did r (zs .0)) (λ e. fsplit ! $ move ! (1 ∷ []) $ drop ! $ move ! (1 ∷ []) $ split ! $ move ! (1 ∷ []) $
+        split ! $ move ! (1 ∷ []) $ heard ! (Did r (zs .0)) (λ e. fsplit ! $ move ! (1 ∷ []) $ kit.drop ! $ move ! (1 ∷ []) $ split ! $ move ! (1 ∷ []) $
         -- [the answer; the token and true; the last value; the lender's part; _5; …]
         peeks ! E.the-row (Is E.the-row) (shows 𝓤 H A E.the-row) r (u ∷ []) (λ is-r.
         land ! (from ! (stop !)) (init ! 8 refl (LL.lawful E.the-type E′.the-laws 𝓤 H A W .typed r _ is-r .0)) $
         rewrite ! 8 (λ (z : Val). ‵ (fat fullShare E′.mir l₃ 0 z)) (ap only (LL.tells E.the-type E′.the-laws r (u ∷ []) is-r)) refl $
         -- the lifetime is ended, and the session comes back at its last value
-        drop ! $ split ! $ lft-end ! tt $ move ! (0 ∷ 3 ∷ 2 ∷ []) $ use3 W (later (‵ (partAt T.the-row fullShare (zs .0) l₂ 0))) (ref-back 𝓤 H A W T.the-row (α ∷ []) γ (zs .0) l₂ 0) $ await ! tt $
+        kit.drop ! $ split ! $ lft-end ! tt $ move ! (0 ∷ 3 ∷ 2 ∷ []) $ use3 W (later (‵ (partAt T.the-row fullShare (zs .0) l₂ 0))) (ref-back 𝓤 H A W T.the-row (α ∷ []) γ (zs .0) l₂ 0) $ await ! tt $
         use1 W (‵ (fat fullShare T′.mir l₂ 0 (session-val (zs .0))) ⊛ ‵ (T.the-row .own (zs .0) (session-val (zs .0) ∷ []))) (cell-out 𝓤 H A W (zs .0) l₂) $ split ! $
-        move ! (1 ∷ []) $ peeks ! T.the-row (Is T.the-row) (shows 𝓤 H A T.the-row) (zs .0) (session-val (zs .0) ∷ []) (λ is-z. drop ! $
+        move ! (1 ∷ []) $ peeks ! T.the-row (Is T.the-row) (shows 𝓤 H A T.the-row) (zs .0) (session-val (zs .0) ∷ []) (λ is-z. kit.drop ! $
         -- [_2; true; _5; …; _4; …; _3; …; (of _2); _1; …; room for _0; …]
         assigns ! (of-opd ! (load ! (from ! (stop !)) (look ! 0 refl))) (from ! (stop !)) (init ! 2 refl (LL.lawful T.the-type T′.the-laws 𝓤 H A W .typed (zs .0) (session-val (zs .0) ∷ []) is-z .0)) $
         assigns ! (agg ! (and-then ! (load ! (from ! (stop !)) (look ! 6 refl)) (and-then ! (load ! (from ! (stop !)) (look ! 2 refl)) (no-more !)))) (from ! (stop !))
