@@ -289,6 +289,11 @@ own-copied individual b h e = go (eqb (length individual) 0) refl h
 
 -- ---- 17, 1, 2
 
+-- a row that holds gives its number
+pub first-row : (b : Bool) (m rest : ℕ) → b ≡ true → m ≡ choose b m rest
+unfolding choose
+first-row b m rest e = rw e
+
 -- the number of entries and nodes, by the lengths of their lists
 pub too-many : (keys areas services : List ℕ) → either (ltb 128 (length (entries keys))) (either (ltb 32 (length (nodes areas))) (ltb 32 (length (nodes services))))
     ≡ either (ltb 128 (length keys / 19)) (either (ltb 32 (length areas / 2)) (ltb 32 (length services / 2)))

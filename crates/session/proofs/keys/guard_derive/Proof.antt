@@ -4,7 +4,7 @@ use Rattle.frame.specs.Outcome.{choose}
 use Rattle.frame.specs.Guards.{firstOf}
 use Rattle.frame.specs.Tests.{either}
 use Rattle.session.specs.Derivation.{deriveRows}
-use Rattle.session.proofs.Derives.{too-many}
+use Rattle.session.proofs.Derives.{first-row, too-many}
 use borrow.Author.Needs.{needs}
 use Rattle.session.proofs.keys.guard_derive.Statement.{statement}
 use Rattle.session.proofs.keys.guard_derive.Tie as tie
@@ -26,11 +26,11 @@ any-algorithm-unknown-requires : tie.Need-any-algorithm-unknown-requires
 any-algorithm-unknown-requires c κs = search needs
 
 returns-3 : tie.Need-returns-3
-unfolding deriveRows firstOf choose either
+unfolding deriveRows firstOf either
 returns-3 c =
     let u = c .before in
     let l = u .before .before in
-    rw (le-ltb _ _ (l .before .if1 .left), sym (l .lengths-wrong .ensures) ∙ u .before .if2 .left, sym (u .any-algorithm-unknown .ensures) ∙ c .if3 .taken)
+    rw (le-ltb _ _ (l .before .if1 .left), sym (l .lengths-wrong .ensures) ∙ u .before .if2 .left) (first-row _ _ _ (sym (u .any-algorithm-unknown .ensures) ∙ c .if3 .taken))
 
 too-many-requires : tie.Need-too-many-requires
 too-many-requires c κs = search needs
