@@ -1,11 +1,10 @@
 -- Two IDs are equal if their numbers are. Assumes nothing.
-use mathlib.Core.Path.{_≡_, refl, sym, ap, _∙_}
+use mathlib.Core.Path.{_≡_, sym, _∙_}
 use mathlib.Core.List.{List, [], _∷_}
-use Prim.Native.Nat.{ℕ, suc, _+_, _*_, _≤_, _<_}
+use Prim.Native.Nat.{ℕ, _+_, _*_, _≤_, _<_}
 use native.Mathlib.Omega.{arith}
-use lib.Dec.{lit<}
-use lib.ListN.{length, drop, getD, drop-of-length-le}
-use lib.Seq.{drop-cons}
+use lib.ListN.{length, getD, drop-of-length-le}
+use Rattle.frame.proofs.Elements.{elements, written-out}
 
 -- a byte and what is above it
 digit : (a b x y : ℕ) → a < 256 → b < 256 → a + x * 256 ≡ b + y * 256 → (a ≡ b) × (x ≡ y)
@@ -24,11 +23,10 @@ number-of-six a b c d e f a' b' c' d' e' f' ha hb hc hd he hf ha' hb' hc' hd' he
 
 -- a list of six, with each of them written out
 six : (s : List ℕ) → length s ≡ 6 → s ≡ getD s 0 0 ∷ getD s 1 0 ∷ getD s 2 0 ∷ getD s 3 0 ∷ getD s 4 0 ∷ getD s 5 0 ∷ []
+unfolding elements
 six s l =
-    let at : (i : ℕ) → i < 6 → drop i s ≡ getD s i 0 ∷ drop (suc i) s = λ i h. drop-cons s i 0 (omega arith) in
     let h : length s ≤ 6 = omega arith in
-    at 0 (lit< tt) ∙ ap (λ (t : List ℕ). getD s 0 0 ∷ t) (at 1 (lit< tt) ∙ ap (λ (t : List ℕ). getD s 1 0 ∷ t) (at 2 (lit< tt) ∙ ap (λ (t : List ℕ). getD s 2 0 ∷ t)
-    (at 3 (lit< tt) ∙ ap (λ (t : List ℕ). getD s 3 0 ∷ t) (at 4 (lit< tt) ∙ ap (λ (t : List ℕ). getD s 4 0 ∷ t) (at 5 (lit< tt) ∙ ap (λ (t : List ℕ). getD s 5 0 ∷ t) (drop-of-length-le s h))))))
+    written-out 6 0 s (omega arith) ∙ rw (drop-of-length-le s h)
 
 -- the number of the first six bytes
 abbrev pub sixBytes : List ℕ → ℕ

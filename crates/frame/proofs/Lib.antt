@@ -7,6 +7,7 @@ pub mod Decides
 pub mod DesOpens
 pub mod DesSeals
 pub mod DesTrip
+pub mod Elements
 pub mod Frames
 pub mod Fronts
 pub mod Ids

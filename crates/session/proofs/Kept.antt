@@ -3,13 +3,13 @@ use mathlib.Core.Path.{_≡_, refl, sym, ap, _∙_}
 use mathlib.Core.Bool.{Bool, true, false}
 use mathlib.Core.List.{List, [], _∷_, _++_, append-nil}
 use Prim.Native.Nat.{ℕ}
-use native.Mathlib.Omega.{arith}
 use borrow.Author.Tests.{eq-eqb}
-use lib.Dec.{eqb}
+use lib.Dec.{eqb, lit<}
 use lib.ListN.{length, drop, getD}
-use Rattle.frame.specs.Outcome.{Outcome, Row, row, choose, decide, refused, accepted as accepting, over}
+use Rattle.frame.specs.Outcome.{Outcome, row, choose, accepted as accepting, over}
 use Rattle.frame.specs.Tests.{isnt, either, both}
-use Rattle.frame.proofs.Decides.{either-false, isnt-false, is-number}
+use Rattle.frame.proofs.Decides.{either-false, isnt-false, is-number, decide-false}
+use Rattle.frame.proofs.Refusals.{zero-passes}
 use Rattle.frame.proofs.Sames.{both-true}
 use Rattle.session.specs.History.{Event, step, setting, response, next, after, refusals, least}
 use Rattle.session.specs.Session.{Step, stepped, withNumber, withCount, counting, received, makeRows, established}
@@ -69,15 +69,6 @@ kept-history b (t ∷ ts) y h =
 
 -- ---- from its making on
 
-passes : (k : ℕ) (p : Bool) (rs : List Row) (o : Outcome) → (k ≡ 0 → ⊥) → decide (row k p ∷ rs) o .number ≡ 0 → (p ≡ false) × (decide (row k p ∷ rs) o ≡ decide rs o)
-unfolding decide choose refused
-passes k true rs o n h = absurd (n h)
-passes k false rs o n h = (refl, refl)
-
-no-row : (o : Outcome) → decide [] o ≡ o
-unfolding decide
-no-row o = refl
-
 module _ (scheme number : ℕ) (id credentials listed : List ℕ) (r : ℕ) (before b : List ℕ) (made : MakesKept scheme number id credentials listed r before b) (same : length b ≡ length before)
     (accepted : making scheme number id credentials listed (length before) .number ≡ 0) where
   -- what was made is a session
@@ -85,15 +76,12 @@ module _ (scheme number : ℕ) (id credentials listed : List ℕ) (r : ℕ) (bef
   unfolding making makeRows over accepting established
   made-session =
       let t = established scheme number id credentials listed in
-      let rows = makeRows scheme (length id) (length credentials) (length listed) in
-      let p = passes 17 (isnt (eqb (length before) 178)) rows (accepting 0 (encode t)) (λ z. omega arith) accepted in
-      let n : decide rows (accepting 0 (encode t)) .number ≡ 0 = ap (λ (o : Outcome). o .number) (sym (p .1)) ∙ accepted in
-      let q = passes 17 _ _ _ (λ z. omega arith) n in
-      let m = ap (λ (o : Outcome). o .number) (sym (q .1)) ∙ n in
-      let w = passes 1 _ _ _ (λ z. omega arith) m in
-      let o : making scheme number id credentials listed (length before) ≡ accepting 0 (encode t) = p .1 ∙ q .1 ∙ w .1 ∙ no-row (accepting 0 (encode t)) in
+      let w : Outcome = accepting 0 (encode t) in
+      let rows = row 17 (isnt (eqb (length before) 178)) ∷ makeRows scheme (length id) (length credentials) (length listed) in
+      let p = zero-passes rows w (lit< tt, (lit< tt, (lit< tt, tt))) accepted in
+      let o : making scheme number id credentials listed (length before) ≡ w = decide-false rows w p in
       let size : length before ≡ 178 = is-number (length before) 178 (p .0) in
-      let known : either (eqb scheme 1) (eqb scheme 2) ≡ true = isnt-false _ (either-false _ _ (q .0) .0) in
+      let known : either (eqb scheme 1) (eqb scheme 2) ≡ true = isnt-false _ (either-false _ _ (p .1 .0) .0) in
       let e : b ≡ encode t ++ drop (length (encode t)) before = rw o at (made .returns .output) in
       encoded b _ t (same ∙ size) e known
 

@@ -2,12 +2,12 @@
 use mathlib.Core.Path.{_≡_, refl, sym, ap, _∙_}
 use mathlib.Core.Bool.{Bool, true, false, true≢false}
 use mathlib.Core.List.{List, [], _∷_, _++_, append-nil, append-assoc}
-use Prim.Native.Nat.{ℕ, suc, _+_, _*_, _/_, _%_, _≤_, _<_}
+use Prim.Native.Nat.{ℕ, _+_, _*_, _/_, _%_, _≤_, _<_}
 use native.Mathlib.Omega.{arith}
 use borrow.Author.Tests.{eq-eqb, ne-eqb, eqb-true}
-use lib.Dec.{eqb, ltb, lit≤, lit<}
+use lib.Dec.{eqb, ltb, lit≤}
 use lib.ListN.{length, take, drop, getD, replicate, length-append, length-drop, take-append-drop, drop-of-length-le}
-use lib.Seq.{take-at, drop-at, take-all, getD-drop, drop-cons, drop-drop}
+use lib.Seq.{take-at, drop-at, take-all, getD-drop, drop-drop}
 use Rattle.cipher.specs.Bytes.{Bytes}
 use Rattle.frame.specs.Guards.{firstOf}
 use Rattle.frame.specs.Number.{numberBytes, numberOf}
@@ -15,6 +15,7 @@ use Rattle.frame.specs.Outcome.{Row, choose, decide, refused, accepted, over}
 use Rattle.frame.specs.Packed.{packed}
 use Rattle.frame.specs.Tests.{isnt, either, both}
 use Rattle.frame.proofs.Decides.{numbered, decide-false, first-refuses, first-passes}
+use Rattle.frame.proofs.Elements.{elements, written-out}
 use Rattle.frame.proofs.Overs.{copied-over}
 use Rattle.frame.proofs.Pieces.{copied-next}
 use Rattle.frame.proofs.Sames.{both-true}
@@ -156,13 +157,9 @@ module _ (scheme number : ℕ) (id credentials listed : List ℕ) (r : ℕ) (bef
 
 -- a session's bytes are its eight first, its ID, its credentials and its nodes
 module _ (b : List ℕ) (l : length b ≡ 178) where
-  at : (i : ℕ) → i < 178 → drop i b ≡ getD b i 0 ∷ drop (suc i) b
-  at i h = drop-cons b i 0 (omega arith)
-
   first-eight : getD b 0 0 ≡ 1 → b ≡ 1 ∷ getD b 1 0 ∷ getD b 2 0 ∷ getD b 3 0 ∷ getD b 4 0 ∷ getD b 5 0 ∷ getD b 6 0 ∷ getD b 7 0 ∷ drop 8 b
-  first-eight version = at 0 (lit< tt) ∙ ap (λ (x : ℕ). x ∷ drop 1 b) version ∙ ap (λ (t : List ℕ). 1 ∷ t) (at 1 (lit< tt) ∙ ap (λ (t : List ℕ). getD b 1 0 ∷ t) (at 2 (lit< tt) ∙ ap (λ (t : List ℕ). getD b 2 0 ∷ t)
-      (at 3 (lit< tt) ∙ ap (λ (t : List ℕ). getD b 3 0 ∷ t) (at 4 (lit< tt) ∙ ap (λ (t : List ℕ). getD b 4 0 ∷ t) (at 5 (lit< tt) ∙ ap (λ (t : List ℕ). getD b 5 0 ∷ t)
-      (at 6 (lit< tt) ∙ ap (λ (t : List ℕ). getD b 6 0 ∷ t) (at 7 (lit< tt))))))))
+  unfolding elements
+  first-eight version = written-out 8 0 b (omega arith) ∙ ap (λ (x : ℕ). x ∷ (elements 1 7 b ++ drop 8 b)) version
 
   rest : take 6 (drop 8 b) ++ take 36 (drop 14 b) ++ take 128 (drop 50 b) ≡ drop 8 b
   rest =
