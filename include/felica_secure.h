@@ -12,7 +12,7 @@
 //
 // What the archive does and does not do. It keeps no state, allocates nothing and calls nothing but memcpy and memset: it is reentrant. It
 // does not wipe its stack: key schedules and plain text stay there after the call. It looks tables up by secret bytes, so its time can tell
-// of them; comparisons of MACs read all bytes.
+// of them; comparisons of MACs, challenges and transaction IDs read all bytes (docs/GUIDE.md).
 #ifndef FELICA_SECURE_H
 #define FELICA_SECURE_H
 
