@@ -23,7 +23,7 @@ to = $(DESTDIR)$(PREFIX)
 
 demo: archive
 	@mkdir -p target/examples
-	gcc -std=c99 -Wall -Wextra -pedantic -O2 -Iinclude -o target/examples/dock examples/dock.c target/staticlib/libsession.a
+	gcc -std=c99 -Wall -Wextra -pedantic -O2 -Iinclude -o target/examples/dock examples/dock.c target/staticlib/libfelica_secure.a
 	@echo
 	@target/examples/dock
 
@@ -55,17 +55,17 @@ examples:
 	bash tests/examples
 
 archive:
-	bash tests/archive
+	bash tools/archive
 
 install: archive
 	install -d $(to)/include $(to)/lib/pkgconfig
 	install -m 644 include/felica_secure.h $(to)/include
-	install -m 644 target/staticlib/libsession.a $(to)/lib
+	install -m 644 target/staticlib/libfelica_secure.a $(to)/lib
 	sed -e 's|@PREFIX@|$(PREFIX)|' -e 's|@VERSION@|$(VERSION)|' felica_secure.pc.in >$(to)/lib/pkgconfig/felica_secure.pc
 	chmod 644 $(to)/lib/pkgconfig/felica_secure.pc
 
 uninstall:
-	rm -f $(to)/include/felica_secure.h $(to)/lib/libsession.a $(to)/lib/pkgconfig/felica_secure.pc
+	rm -f $(to)/include/felica_secure.h $(to)/lib/libfelica_secure.a $(to)/lib/pkgconfig/felica_secure.pc
 
 installcheck:
 	bash tests/install
@@ -77,7 +77,7 @@ run-vectors:
 
 vectors:
 	apt-get install -y python3-cryptography python3-cryptography-vectors
-	/usr/bin/python3 tests/make_vectors.py
+	/usr/bin/python3 tools/make_vectors.py
 
 bench:
 	bench/run

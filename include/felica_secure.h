@@ -1,6 +1,6 @@
 // The FeliCa protocol's secure session, for C99 and C++11: key derivation, the challenges of an authentication, AES session keys; sealed
 // commands and responses in both schemes, response frames, Authentication 2, the DES registration package; the session. The archive is
-// libsession.a (`rt staticlib session`), for x86-64 Linux.
+// libfelica_secure.a (`rt staticlib felica_secure`), for x86-64 Linux.
 //
 // Proved, for every call whose buffers are as the caller's part below says: the call ends, and its answer and its whole output are those
 // of a definition in crates/session/specs or crates/frame/specs, which docs/STATUS.md names for each function.

@@ -5,8 +5,8 @@ It needs Debian's packages python3-cryptography-vectors, which has the files of 
 Algorithm Validation Program, and python3-cryptography, by which each vector is checked in the very
 way in which the program runs it. The vectors that are printed in FIPS 197 and SP 800-38A are below.
 
-    tests/make_vectors.py            write the files
-    tests/make_vectors.py --check    compare with the files that are there; status 1 where one differs
+    tools/make_vectors.py            write the files
+    tools/make_vectors.py --check    compare with the files that are there; status 1 where one differs
 
 stdout is what the program has to print where every vector agrees. Its counts are those of the lines
 of the data files, and its CMACs are Python's: no run of the program goes into it.
