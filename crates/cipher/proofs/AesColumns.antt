@@ -6,7 +6,7 @@ use lib.ListN.{getD}
 use lib.Bits.{bitXor, xor-comm}
 use Rattle.cipher.specs.Bytes.{tab, _⊕_, wordBytes}
 use Rattle.cipher.specs.Fips197.{_•_, addTimes, ifBit, sBox, invSBox, cell, mixed}
-use Rattle.cipher.specs.AesTables.{diagonal, rotRight, mixedColumn, MixTable, TeTable}
+use Rattle.cipher.specs.inner.AesTables.{diagonal, rotRight, mixedColumn, MixTable, TeTable}
 use Rattle.cipher.proofs.Xor.{xor-assoc}
 use Rattle.cipher.proofs.Words.{_◂_, low, word-xor, word-join}
 

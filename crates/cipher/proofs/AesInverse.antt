@@ -11,7 +11,7 @@ use Rattle.cipher.specs.Bytes.{Bytes, tab}
 use Rattle.cipher.specs.Fips197.{_•_, sBox, subBytes, cell, shiftRows, mixed, mixColumns, addRoundKey, keyExpansion, roundKey, rounds, cipher, invSBox, invShiftRows, invSubBytes, invMixColumns, invRounds, invCipher, aesEncrypt, aesDecrypt}
 use Rattle.cipher.proofs.Xor.{⊕-twice}
 use Rattle.cipher.proofs.ByteLists.{Bytes-tab}
-use Rattle.cipher.proofs.Tabs.{listed, length-tab}
+use Rattle.cipher.proofs.Tabulation.{listed, length-tab}
 use Rattle.cipher.proofs.Words.{_◂_, map-undone}
 use Rattle.cipher.proofs.Linear.{Sum, var, _⊞_, product, value, product-value, same, equal}
 use Rattle.cipher.proofs.AesTables.{invSBox-sBox, sBox-invSBox}

@@ -10,7 +10,7 @@ use Rattle.cipher.specs.Bytes.{Bytes, tab, _⊕_}
 use Rattle.cipher.specs.Fips197.{sBox, subBytes, cell, shiftRows, mixed, addRoundKey, word, rotWord, rcon, keyTemp, nextWord, keyWords, keyExpansion, roundKey, cipher, invSBox, invShiftRows, invSubBytes, invCipher, aesEncrypt, aesDecrypt}
 use Rattle.cipher.proofs.Xor.{xor-byte, length-⊕, Bytes-⊕}
 use Rattle.cipher.proofs.ByteLists.{Bytes-tab, Bytes-map, Bytes-take, Bytes-drop, Bytes-append}
-use Rattle.cipher.proofs.Tabs.{length-tab}
+use Rattle.cipher.proofs.Tabulation.{length-tab}
 use Rattle.cipher.proofs.AesBytes.{times-byte, power-byte, sBox-byte, invSBox-byte}
 
 -- two strings of one length

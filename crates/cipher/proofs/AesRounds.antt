@@ -7,7 +7,7 @@ use native.Mathlib.Omega.{arith}
 use lib.ListN.{length, getD}
 use Rattle.cipher.specs.Bytes.{tab, _⊕_, wordBytes, wordsBytes}
 use Rattle.cipher.specs.Fips197.{sBox, subBytes, cell, shiftRows, mixed, mixColumns, addRoundKey, roundKey, rounds, cipher, invSBox, invSubBytes, invShiftRows, invMixColumns, invRounds, invCipher}
-use Rattle.cipher.specs.AesTables.{diagonal, mixedColumn}
+use Rattle.cipher.specs.inner.AesTables.{diagonal, mixedColumn}
 use Rattle.cipher.proofs.Words.{words-four, words-of, words-xor}
 
 -- the words m to m + 3

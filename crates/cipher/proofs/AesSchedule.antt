@@ -11,7 +11,7 @@ use lib.Seq.{drop-append-add, drop-cons, take-at, drop-at, take-all, take-append
 use lib.Bits.{bitXor}
 use Rattle.cipher.specs.Bytes.{_⊕_, wordBytes, wordsBytes}
 use Rattle.cipher.specs.Fips197.{xtime, sBox, word, rotWord, power, rcon, keyTemp, nextWord, keyWords, keyExpansion, roundKey}
-use Rattle.cipher.specs.AesTables.{diagonal, NextKey}
+use Rattle.cipher.specs.inner.AesTables.{diagonal, NextKey}
 use Rattle.cipher.proofs.Xor.{⊕-assoc}
 use Rattle.cipher.proofs.Words.{_◂_, word-xor, words-append, words-length, words-drop}
 use Rattle.cipher.proofs.AesBytes.{power-byte}

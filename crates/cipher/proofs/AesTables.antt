@@ -9,7 +9,7 @@ use lib.Dec.{T, eqb, eqb→eq}
 use lib.ListN.{length, getD, replicate}
 use Rattle.cipher.specs.Bytes.{tab, wordBytes}
 use Rattle.cipher.specs.Fips197.{xtime, ifBit, addTimes, _•_, timesSquares, inverse, bit, fromBits, affine, sBox, invAffine, invSBox}
-use Rattle.cipher.specs.AesTables.{MixTable, TeTable, UTable, InvSTable}
+use Rattle.cipher.specs.inner.AesTables.{MixTable, TeTable, UTable, InvSTable}
 use Rattle.cipher.proofs.Table.{both, both-left, both-right, every, at, below}
 use Rattle.cipher.proofs.Words.{_◂_}
 use Rattle.cipher.proofs.AesBytes.{inverse-byte, sBox-byte, invAffine-byte, invSBox-byte}

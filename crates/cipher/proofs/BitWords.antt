@@ -17,7 +17,7 @@ use lib.Bits.{bitXor, bitAnd, differ, and-step, xor-shr, and-shr, block-half, bl
 use Rattle.cipher.specs.Bits.{bool, digit, bits, num, numFrom, differs, _⊞_, toBits, toBytes}
 use Rattle.cipher.specs.Bytes.{Bytes}
 use Rattle.cipher.specs.Fips46.{select, leftShift}
-use Rattle.cipher.specs.DesTables.{among}
+use Rattle.cipher.specs.inner.DesTables.{among}
 use Rattle.cipher.proofs.Xor.{xor-odd}
 
 -- ---- the bit at a place, counted from the lowest

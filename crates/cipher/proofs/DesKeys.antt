@@ -16,7 +16,7 @@ use lib.Seq.{take-at, drop-at, take-suc-set, drop-cons, take-all}
 use Rattle.cipher.specs.Bits.{bits, num, _⊞_, toBits}
 use Rattle.cipher.specs.Bytes.{tab}
 use Rattle.cipher.specs.Fips46.{select, leftShift, shifts, keysFrom, KS, PC1, PC2}
-use Rattle.cipher.specs.DesTables.{among, packed, places, pc2Bits, Pc2Table, transposed, keyBits}
+use Rattle.cipher.specs.inner.DesTables.{among, packed, places, pc2Bits, Pc2Table, transposed, keyBits}
 use Rattle.cipher.proofs.BitWords.{bitAt, down, bits-down, bits-shr, length-bits, length-select, bits-mod, bits-join, bits-split, bits-rotate, bits-num}
 use Rattle.cipher.proofs.BitWords.{select-append}
 use Rattle.cipher.proofs.DesWords.{mirrored, loaded}

@@ -5,7 +5,7 @@ use mathlib.Core.List.{List, [], _∷_}
 use Prim.Native.Nat.{ℕ, _^_, _<_}
 use lib.Bits.{bitXor}
 use Rattle.cipher.specs.Fips46.{f, rounds}
-use Rattle.cipher.specs.DesTables.{held, keyBits}
+use Rattle.cipher.specs.inner.DesTables.{held, keyBits}
 use Rattle.cipher.proofs.DesRounds.{state, round-turn}
 
 -- the keys ks, which c and d still give, take l and r to what all of them make of l₀ and r₀

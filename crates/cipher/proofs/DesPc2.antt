@@ -7,7 +7,7 @@ use lib.Dec.{eqb, eqb→eq}
 use lib.ListN.{getD}
 use Rattle.cipher.specs.Bits.{bool, digit, bits, num, numFrom}
 use Rattle.cipher.specs.Fips46.{select, PC2}
-use Rattle.cipher.specs.DesTables.{among, packed, places, pc2Bits, Pc2Table}
+use Rattle.cipher.specs.inner.DesTables.{among, packed, places, pc2Bits, Pc2Table}
 use Rattle.cipher.proofs.Table.{at}
 
 right : ℕ → ℕ → Bool

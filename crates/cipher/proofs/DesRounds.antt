@@ -15,7 +15,7 @@ use Rattle.cipher.specs.Bits.{bits, num, _⊞_, toBits, toBytes}
 use Rattle.cipher.specs.Fips46.{select, leftShift, substitute, substituteAll, f, P, E, IP, IP⁻¹, S1, S2, S3, S4, S5, S6, S7, S8, Halves, round, rounds, crypt}
 use Rattle.cipher.specs.Fips46.{KS}
 use Rattle.cipher.specs.Fips46.{encipher, decipher, desEncrypt, desDecrypt, tdeaEncrypt, tdeaDecrypt, tdea2Encrypt, tdea2Decrypt}
-use Rattle.cipher.specs.DesTables.{among, held, keyBits, box, spBits, SpTable}
+use Rattle.cipher.specs.inner.DesTables.{among, held, keyBits, box, spBits, SpTable}
 use Rattle.cipher.proofs.BitWords.{bitAt, down, bits-down, bits-shr, length-bits, bits-mod, bits-num, bits-xor, ⊞-append, select-append}
 
 -- ---- halves that are held turned left by one place

@@ -7,7 +7,7 @@ use lib.Dec.{eqb, eqb→eq}
 use lib.ListN.{getD}
 use Rattle.cipher.specs.Bits.{bool, digit, bits, num, numFrom}
 use Rattle.cipher.specs.Fips46.{select, leftShift, substitute, P, S1, S2, S3, S4, S5, S6, S7, S8}
-use Rattle.cipher.specs.DesTables.{among, box, spBits, SpTable}
+use Rattle.cipher.specs.inner.DesTables.{among, box, spBits, SpTable}
 use Rattle.cipher.proofs.Table.{at}
 
 right : ℕ → ℕ → Bool

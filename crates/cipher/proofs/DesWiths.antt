@@ -4,8 +4,8 @@ use mathlib.Core.Bool.{Bool}
 use mathlib.Core.List.{List, map, reverse}
 use Prim.Native.Nat.{ℕ}
 use Rattle.cipher.specs.Bits.{toBits, toBytes}
-use Rattle.cipher.specs.DesTables.{keyBits}
-use Rattle.cipher.specs.DesWith.{desWith, desBackWith}
+use Rattle.cipher.specs.inner.DesTables.{keyBits}
+use Rattle.cipher.specs.inner.DesWith.{desWith, desBackWith}
 use Rattle.cipher.specs.Fips46.{KS, crypt, encipher, decipher, desEncrypt, desDecrypt}
 
 -- one block under a list of round keys

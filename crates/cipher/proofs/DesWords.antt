@@ -15,7 +15,7 @@ use lib.Seq.{take-at, drop-at}
 use Rattle.cipher.specs.Bits.{bool, bits, num, differs, toBits, toBytes}
 use Rattle.cipher.specs.Bytes.{tab}
 use Rattle.cipher.specs.Fips46.{select, leftShift, IP, IP⁻¹}
-use Rattle.cipher.specs.DesTables.{deltaSwap, transposed, held}
+use Rattle.cipher.specs.inner.DesTables.{deltaSwap, transposed, held}
 use Rattle.cipher.proofs.BitWords.{bitAt, down, down-ext, bits-down, bits-shr, length-bits, bits-mod, bit-shr, bit-xor, bit-and, bit-high, under, ifSet, up}
 use Rattle.cipher.proofs.BitWords.{bit-shl, bits-join, bits-split, num-low}
 

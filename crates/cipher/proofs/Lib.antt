@@ -29,6 +29,6 @@ pub mod Modes
 pub mod Numbers
 pub mod Parity
 pub mod Table
-pub mod Tabs
+pub mod Tabulation
 pub mod Words
 pub mod Xor

@@ -10,7 +10,7 @@ use lib.Seq.{take-all, drop-drop, take-at, drop-at, set-at}
 use Rattle.cipher.specs.Bytes.{_⊕_}
 use Rattle.cipher.specs.Sp80038a.{blocks}
 use Rattle.cipher.specs.Sp80038b.{shiftLeft, double, K1, K2, lastBlock, macFrom, cmac}
-use Rattle.cipher.proofs.Tabs.{length-tab, getD-tab}
+use Rattle.cipher.proofs.Tabulation.{length-tab, getD-tab}
 use Rattle.cipher.proofs.Filling.{Filled, fill-step}
 use Rattle.cipher.proofs.Xor.{zeros-⊕}
 use Rattle.cipher.proofs.Chains.{blocks-none, blocks-more}

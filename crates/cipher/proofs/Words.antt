@@ -11,7 +11,7 @@ use lib.Pow.{shr-shr}
 use lib.Bits.{bitXor, xor-shr, xor-mod}
 use Rattle.cipher.specs.Bytes.{Bytes, _⊕_, wordBytes, wordsBytes}
 use Rattle.cipher.specs.Fips197.{rotWord}
-use Rattle.cipher.specs.AesTables.{rotRight}
+use Rattle.cipher.specs.inner.AesTables.{rotRight}
 
 infixr 60 _◂_
 pub _◂_ : {a b : ℕ} {s t : List ℕ} → a ≡ b → s ≡ t → a ∷ s ≡ b ∷ t

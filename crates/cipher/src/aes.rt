@@ -6,7 +6,7 @@ ghost use lib.ListN.{length};
 ghost use Rattle.cipher.specs.Bytes.{_⊕_, wordBytes, wordsBytes};
 ghost use Rattle.cipher.specs.Fips197.{xtime, sBox, subBytes, shiftRows, mixColumns, addRoundKey, rotWord, keyExpansion, roundKey, cipher};
 ghost use Rattle.cipher.specs.Fips197.{invSBox, invRounds, invCipher, aesEncrypt, aesDecrypt};
-ghost use Rattle.cipher.specs.AesTables.{diagonal, rotRight, mixedColumn, NextKey, MixTable, TeTable, UTable, InvSTable};
+ghost use Rattle.cipher.specs.inner.AesTables.{diagonal, rotRight, mixedColumn, NextKey, MixTable, TeTable, UTable, InvSTable};
 
 // A state, or four words of the key schedule.
 pub(crate) struct Columns {

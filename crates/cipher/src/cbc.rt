@@ -4,8 +4,8 @@ use crate::des;
 ghost use mathlib.Core.Path.{_≡_};
 ghost use Prim.Native.Nat.{_%_};
 ghost use lib.ListN.{length, replicate};
-ghost use Rattle.cipher.specs.DesTables.{SpTable};
-ghost use Rattle.cipher.specs.DesWith.{desWith, desBackWith};
+ghost use Rattle.cipher.specs.inner.DesTables.{SpTable};
+ghost use Rattle.cipher.specs.inner.DesWith.{desWith, desBackWith};
 ghost use Rattle.cipher.specs.Fips46.{desEncrypt, desDecrypt};
 ghost use Rattle.cipher.specs.Sp80038a.{cbcEncrypt, cbcDecrypt, whole, onWhole};
 

@@ -6,7 +6,7 @@ ghost use mathlib.Core.List.{[], _∷_, _++_};
 ghost use Prim.Native.Nat.{_+_, _-_, _*_, _/_, _%_, _≤_, _<_};
 ghost use lib.ListN.{length, drop, getD, replicate};
 ghost use Rattle.cipher.specs.Bytes.{wordsBytes};
-ghost use Rattle.cipher.specs.AesTables.{TeTable};
+ghost use Rattle.cipher.specs.inner.AesTables.{TeTable};
 ghost use Rattle.cipher.specs.Fips197.{aesEncrypt, cipher};
 ghost use Rattle.cipher.specs.Sp80038a.{blocks};
 ghost use Rattle.cipher.specs.Sp80038b.{shiftLeft, double, lastBlock, macFrom, cmac, R128};

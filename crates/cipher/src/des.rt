@@ -7,7 +7,7 @@ ghost use lib.ListN.{length, getD};
 ghost use Rattle.cipher.specs.Bits.{bits, _⊞_, toBits, toBytes};
 ghost use Rattle.cipher.specs.Fips46.{select, leftShift, f, shifts, KS, PC2, crypt, desEncrypt, desDecrypt};
 ghost use Rattle.cipher.specs.Fips46.{tdea2Encrypt, tdea2Decrypt, IP, IP⁻¹};
-ghost use Rattle.cipher.specs.DesTables.{deltaSwap, transposed, held, keyBits, SpTable, spBits, Pc2Table, pc2Bits};
+ghost use Rattle.cipher.specs.inner.DesTables.{deltaSwap, transposed, held, keyBits, SpTable, spBits, Pc2Table, pc2Bits};
 
 // ---- one block under a key
 

@@ -6,7 +6,7 @@ ghost use mathlib.Core.List.{_++_};
 ghost use Prim.Native.Nat.{_+_, _≤_};
 ghost use lib.ListN.{length, take, drop};
 ghost use Rattle.cipher.specs.Bytes.{_⊕_, wordsBytes};
-ghost use Rattle.cipher.specs.AesTables.{TeTable};
+ghost use Rattle.cipher.specs.inner.AesTables.{TeTable};
 ghost use Rattle.cipher.specs.Fips197.{aesEncrypt, cipher};
 ghost use Rattle.cipher.specs.Sp80038a.{ofb, ofbInput, blocks};
 

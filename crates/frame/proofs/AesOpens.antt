@@ -5,22 +5,22 @@ use mathlib.Core.List.{List, [], _∷_, _++_}
 use Prim.Native.Nat.{ℕ, _+_, _-_, _*_, _≤_}
 use native.Mathlib.Omega.{arith}
 use borrow.Author.Tests.{ltb-false}
-use lib.Dec.{eqb}
+use lib.Dec.{eqb, ltb}
 use lib.ListN.{length, take, drop, getD, length-drop}
 use lib.Seq.{take-at, take-all}
 use Rattle.cipher.specs.Fips197.{aesEncrypt}
 use Rattle.cipher.specs.Sp80038a.{blocks, ofb, ofbInput}
 use Rattle.cipher.proofs.Copies.{length-part}
-use Rattle.frame.specs.Outcome.{refused, choose, decide}
-use Rattle.frame.specs.Delivery.{delivering}
-use Rattle.frame.specs.AesFrame.{cipherKey, macKey, challenge3C, aesIv, aesMac, macInput, openedIv, openedPayload, openedMac, aesOpening}
-use Rattle.frame.specs.AesSteps.{aesOpenRows, aesAccepting, aesTrying}
-use Rattle.frame.specs.Guards.{firstOf}
-use Rattle.frame.specs.Tests.{isnt, both}
+use Rattle.answer.specs.Number.{numberOf}
+use Rattle.answer.specs.Outcome.{Row, refused, accepted, row, choose, decide, firstOf}
+use Rattle.answer.specs.Delivery.{delivering}
+use Rattle.frame.specs.AesFrame.{cipherKey, macKey, challenge3C, aesIv, aesMac, macInput, openedIv, openedPayload, openedMac, aesOpening, aesOpenRows}
+use Rattle.frame.specs.inner.AesSteps.{aesAccepting, aesTrying}
+use Rattle.answer.specs.Tests.{isnt, both, same}
 use Rattle.frame.proofs.AesSeals.{Copy}
-use Rattle.frame.proofs.Decides.{AllFalse, numbered, either-false, is-number, decide-false, first-refuses, first-passes}
-use Rattle.frame.proofs.Overs.{copied-over, front}
-use Rattle.frame.proofs.Sames.{same-is}
+use Rattle.answer.proofs.Rows.{AllFalse, numbered, either-false, is-number, decide-false, first-refuses, first-passes}
+use Rattle.answer.proofs.Outputs.{copied-over, front}
+use Rattle.answer.proofs.Equality.{same-is}
 
 -- ---- the MAC
 
@@ -98,3 +98,13 @@ module _ (c id d : List ℕ) (code room : ℕ) where
 
   pub aes-open-tries : 0 ≡ firstOf (aesOpenRows (length id) (length c) (length d)) → aesOpening c code id d room ≡ aesTrying c code id d room
   aes-open-tries e = open-steps ∙ decide-false (aesOpenRows (length id) (length c) (length d)) (aesTrying c code id d room) (none-holds (length id) (length c) (length d) e)
+
+  -- all rows in one list
+  abbrev pub all-rows : List Row
+  all-rows =
+      aesOpenRows (length id) (length c) (length d)
+      ++ (row 13 (isnt (same (openedMac c code id d) (aesMac (macKey c) (openedIv c code id d) (openedPayload c code id d)))) ∷ row 16 (ltb room (length (openedPayload c code id d))) ∷ [])
+
+  pub by-rows : aesOpening c code id d room ≡ decide all-rows (accepted (numberOf d) (openedPayload c code id d))
+  unfolding aesOpening aesOpenRows delivering decide
+  by-rows = refl

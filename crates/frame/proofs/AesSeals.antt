@@ -1,24 +1,22 @@
 -- AES sealing, step by step: IV, MAC, and the sealed data over the front of an output. Assumes nothing.
 use mathlib.Core.Path.{_≡_, refl, sym, ap, _∙_}
 use mathlib.Core.List.{List, [], _∷_, _++_, append-assoc}
-use Prim.Native.Nat.{ℕ, _+_, _-_, _/_, _%_, _≤_}
+use Prim.Native.Nat.{ℕ, _+_, _-_, _/_, _%_, _≤_, _<_}
 use native.Mathlib.Omega.{arith}
 use borrow.Author.Tests.{ltb-false}
-use lib.Dec.{eqb}
+use lib.Dec.{eqb, ltb}
 use lib.ListN.{length, take, drop, set, replicate, getD, length-append, length-drop, drop-of-length-le}
 use lib.Seq.{take-all, length-take-le, set-split, set-at, drop-cons}
 use Rattle.cipher.specs.Fips197.{aesEncrypt}
 use Rattle.cipher.specs.Sp80038a.{blocks, ofb, ofbInput}
 use Rattle.cipher.specs.Sp80038b.{cmac, R128}
-use Rattle.frame.specs.Number.{numberBytes}
-use Rattle.frame.specs.Outcome.{over, refused, accepted}
-use Rattle.frame.specs.AesFrame.{cipherKey, macKey, challenge3C, aesIv, aesMac, macInput, aesSealed, aesSize, aesSealing}
-use Rattle.frame.specs.AesSteps.{aesSealRows}
-use Rattle.frame.specs.Tests.{isnt, both}
-use Rattle.frame.specs.Guards.{firstOf}
-use Rattle.frame.proofs.Decides.{AllFalse, numbered, either-false, is-number, decide-false, first-refuses, first-passes}
-use Rattle.frame.proofs.Overs.{copied-over}
-use Rattle.frame.proofs.Pieces.{copied-next, last-piece, put-again}
+use Rattle.answer.specs.Number.{numberBytes}
+use Rattle.answer.specs.Outcome.{over, accepted, row, decide, firstOf}
+use Rattle.frame.specs.AesFrame.{cipherKey, macKey, challenge3C, aesIv, aesMac, macInput, aesSealed, aesSize, aesSealing, aesSealRows}
+use Rattle.answer.specs.Tests.{isnt, both}
+use Rattle.answer.proofs.Rows.{AllFalse, numbered, either-false, is-number, first-passes}
+use Rattle.answer.proofs.Outputs.{copied-over}
+use Rattle.answer.proofs.Pieces.{copied-next, last-piece, put-again}
 
 -- what a copy of src over the front of d leaves
 abbrev pub Copy : List ℕ → List ℕ → List ℕ → Type 0
@@ -100,36 +98,27 @@ module _ (code number : ℕ) (id c payload out : List ℕ) (room : length payloa
       let k : n + 10 ≡ length ((num ++ l₃) ++ mac′) = omega (arith, length-append (num ++ l₃) mac′) in
       (k ∙ ap length e, w₄ ∙ ap (λ (z : List ℕ). over z out) e)
 
--- ---- refusals
+-- ---- the guard
 
--- of lengths: what holds where no row does
-pub record AesSealable (id c payload room : ℕ) : Type 0 where
+-- what holds where it answers 0
+pub record AesSealable (id c payload : ℕ) : Type 0 where
+  pub rows : AllFalse (aesSealRows id c payload)
   pub six : id ≡ 6
   pub all : c ≡ 36
   pub short : payload ≤ 243
-  pub fits : aesSize payload ≤ room
+  pub some : 0 < aesSize payload
+  pub fits : aesSize payload ≤ 253
 
-none-holds : (id c payload room : ℕ) → 0 ≡ firstOf (aesSealRows id c payload room) → AllFalse (aesSealRows id c payload room)
-unfolding aesSealRows numbered both
-none-holds id c payload room e = first-passes (aesSealRows id c payload room) 0 refl e refl
+pub aes-seal-passes : (id c payload k : ℕ) → k ≡ firstOf (aesSealRows id c payload) → k ≡ 0 → AesSealable id c payload
+unfolding aesSealRows aesSize numbered both
+aes-seal-passes id c payload k e z =
+    let a = first-passes (aesSealRows id c payload) k refl e z in
+    let f = either-false (isnt (eqb id 6)) (isnt (eqb c 36)) (a .0) in
+    let h = ltb-false 243 payload (a .1 .0) in
+    record { rows = a; six = is-number id 6 (f .0); all = is-number c 36 (f .1); short = h; some = omega arith; fits = omega arith }
 
-pub aes-seal-passes : (id c payload room : ℕ) → 0 ≡ firstOf (aesSealRows id c payload room) → AesSealable id c payload room
-unfolding aesSealRows
-aes-seal-passes id c payload room e =
-    let h = none-holds id c payload room e in
-    let f = either-false (isnt (eqb id 6)) (isnt (eqb c 36)) (h .0) in
-    record {
-      six = is-number id 6 (f .0);
-      all = is-number c 36 (f .1);
-      short = ltb-false 243 payload (h .1 .0);
-      fits = ltb-false room (aesSize payload) (h .1 .1 .0);
-    }
-
-module _ (c id payload : List ℕ) (code number room : ℕ) where
-  pub aes-seal-refuses : (k : ℕ) → k ≡ firstOf (aesSealRows (length id) (length c) (length payload) room) → (k ≡ 0 → ⊥) → aesSealing c code number id payload room ≡ refused k
-  unfolding aesSealing aesSealRows
-  aes-seal-refuses k e h = first-refuses (aesSealRows (length id) (length c) (length payload) room) (accepted 0 (aesSealed c code number id payload)) k e h
-
-  pub aes-seal-accepts : 0 ≡ firstOf (aesSealRows (length id) (length c) (length payload) room) → aesSealing c code number id payload room ≡ accepted 0 (aesSealed c code number id payload)
-  unfolding aesSealing aesSealRows
-  aes-seal-accepts e = decide-false (aesSealRows (length id) (length c) (length payload) room) (accepted 0 (aesSealed c code number id payload)) (none-holds (length id) (length c) (length payload) room e)
+-- the rows by lengths alone, then 16
+pub aes-seal-steps : (c id payload : List ℕ) (code number room : ℕ)
+    → aesSealing c code number id payload room ≡ decide (aesSealRows (length id) (length c) (length payload)) (decide (row 16 (ltb room (aesSize (length payload))) ∷ []) (accepted 0 (aesSealed c code number id payload)))
+unfolding aesSealing aesSealRows decide
+aes-seal-steps c id payload code number room = refl

@@ -15,13 +15,14 @@ use Rattle.cipher.specs.Sp80038a.{blocks, ofb}
 use Rattle.cipher.specs.Sp80038b.{cmac, R128}
 use Rattle.cipher.proofs.ByteLists.{Block, Bytes-cons, Bytes-append, Bytes-take, Bytes-drop}
 use Rattle.cipher.proofs.Ciphers.{length-aes-ofb, aes-ofb-twice, Bytes-aes-ofb, aes-input-block, aes-cmac-block}
-use Rattle.frame.specs.Number.{numberBytes}
-use Rattle.frame.specs.Outcome.{Outcome, accepted, row}
-use Rattle.frame.specs.Tests.{isnt, either, same}
-use Rattle.frame.specs.AesFrame.{cipherKey, macKey, challenge3C, aesIv, aesMac, macInput, aesSealed, aesSize, openedIv, openedPayload, openedMac, aesOpening}
-use Rattle.frame.proofs.Decides.{AllFalse, decide-false, isnt-false, either-false}
-use Rattle.frame.proofs.Refusals.{zero-passes, accepted-zero, accepted-number, accepted-bytes, isnt-of, either-of, same-of}
-use Rattle.frame.proofs.Sames.{same-equal}
+use Rattle.answer.specs.Number.{numberBytes}
+use Rattle.answer.specs.Outcome.{Outcome, accepted, row}
+use Rattle.answer.specs.Tests.{isnt, either, same}
+use Rattle.frame.specs.AesFrame.{cipherKey, macKey, challenge3C, aesIv, aesMac, macInput, aesSealed, aesSize, openedIv, openedPayload, openedMac, aesOpenRows, aesOpening}
+use Rattle.frame.proofs.AesOpens.{all-rows, by-rows}
+use Rattle.answer.proofs.Rows.{AllFalse, decide-false, isnt-false, either-false}
+use Rattle.answer.proofs.Refusals.{zero-passes, accepted-zero, accepted-number, accepted-bytes, isnt-of, either-of, same-of}
+use Rattle.answer.proofs.Equality.{same-equal}
 
 -- ---- pieces
 
@@ -177,14 +178,15 @@ module _ (c id payload : List ℕ) (code number : ℕ) (hc : length c ≡ 36) (b
   number-is = ap (λ (l : List ℕ). getD l 0 0 + getD l 1 0 * 256) sealed-is ∙ omega (arith, h .small)
 
   pub aes-opens-sealed : (room : ℕ) → length payload ≤ room → aesOpening c code id (aesSealed c code number id payload) room ≡ accepted number payload
-  unfolding aesOpening sealed mac
+  unfolding aesOpenRows sealed mac
   aes-opens-sealed room hr =
       let least : 10 ≤ length sealed = omega (arith, sealed-len) in
       let most : length sealed ≤ 253 = omega (arith, sealed-len, h .short) in
       let fits : length (openedPayload c code id sealed) ≤ room = rw payload-is hr in
       let macs : openedMac c code id sealed ≡ aesMac (macKey c) (openedIv c code id sealed) (openedPayload c code id sealed) =
       mac-is ∙ sym (ap₂ (aesMac (macKey c)) iv-is payload-is) in
-      decide-false _ _ (
+      by-rows c id sealed code room
+      ∙ decide-false (all-rows c id sealed code room) _ (
         either-of _ _ (isnt-of _ (eq-eqb _ _ hi)) (isnt-of _ (eq-eqb _ _ hc)),
         (
           le-ltb _ _ least,
@@ -208,8 +210,10 @@ module _ (c id d : List ℕ) (code room : ℕ) (bc : Bytes c) (bi : Bytes id) (h
       ∷ row 13 (isnt (same (openedMac c code id d) (aesMac (macKey c) (openedIv c code id d) (openedPayload c code id d))))
       ∷ row 16 (ltb room (length (openedPayload c code id d)))
       ∷ [])
-  unfolding aesOpening
-  none = zero-passes _ _ (lit< tt, (lit< tt, (lit< tt, (lit< tt, (lit< tt, tt))))) zero-answer
+  unfolding aesOpenRows
+  none =
+      zero-passes (all-rows c id d code room) _ (lit< tt, (lit< tt, (lit< tt, (lit< tt, (lit< tt, tt)))))
+      (ap (λ (o : Outcome). o .number) (sym (by-rows c id d code room)) ∙ zero-answer)
 
   id-long : length id ≡ 6
   id-long = eqb-true _ _ (isnt-false _ (either-false _ _ (none .0) .0))
@@ -230,8 +234,8 @@ module _ (c id d : List ℕ) (code room : ℕ) (bc : Bytes c) (bi : Bytes id) (h
   macs = same-equal _ _ (isnt-false _ (none .1 .1 .1 .0))
 
   pub aes-answer : aesOpening c code id d room ≡ accepted (getD d 0 0 + getD d 1 0 * 256) (openedPayload c code id d)
-  unfolding aesOpening
-  aes-answer = decide-false _ _ none
+  unfolding aesOpenRows
+  aes-answer = by-rows c id d code room ∙ decide-false (all-rows c id d code room) _ none
 
   front-long : length (take 2 d) ≡ 2
   front-long = length-take-le 2 d (omega (arith, d-least))

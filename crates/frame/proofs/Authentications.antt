@@ -1,19 +1,19 @@
 -- Authentication 2, step by step. Assumes nothing.
 use mathlib.Core.Path.{_≡_, refl}
 use mathlib.Core.Bool.{true, false}
-use mathlib.Core.List.{List}
+use mathlib.Core.List.{List, [], _∷_}
 use Prim.Native.Nat.{ℕ, _+_, _-_, _%_, _≤_, _<_}
 use native.Mathlib.Omega.{arith}
 use borrow.Author.Tests.{lt-ltb, le-ltb, ltb-false}
+use lib.Dec.{ltb}
 use lib.ListN.{length, take}
-use Rattle.frame.specs.Authentication2.{auth2Code, auth2Size, auth2SealRows, auth2OpenRows, auth2Accepting}
-use Rattle.frame.specs.Delivery.{delivering}
+use Rattle.frame.specs.Authentication2.{auth2Code, auth2Sealed, auth2Size, auth2SealRows, auth2Sealing, auth2OpenRows, auth2Accepting}
+use Rattle.answer.specs.Delivery.{delivering}
 use Rattle.frame.specs.DesFrame.{macHolds}
-use Rattle.frame.specs.Guards.{firstOf}
-use Rattle.frame.specs.Outcome.{refused, choose, decide}
+use Rattle.answer.specs.Outcome.{refused, accepted, row, choose, decide, firstOf}
 use Rattle.frame.specs.Padding.{padCount}
-use Rattle.frame.specs.Tests.{isnt, either, both}
-use Rattle.frame.proofs.Decides.{AllFalse, numbered, first-passes, is-number}
+use Rattle.answer.specs.Tests.{isnt, either, both}
+use Rattle.answer.proofs.Rows.{AllFalse, numbered, first-passes, is-number}
 
 -- ---- sealing
 
@@ -21,17 +21,22 @@ pub short-padded : (n : ℕ) → n ≤ 240 → n + padCount n ≤ 240
 unfolding padCount
 short-padded n h = omega arith
 
-pub record Auth2Sealable (key payload room : ℕ) : Type 0 where
-  pub rows : AllFalse (auth2SealRows key payload room)
+pub record Auth2Sealable (key payload : ℕ) : Type 0 where
+  pub rows : AllFalse (auth2SealRows key payload)
   pub eight : key ≡ 8
   pub short : payload + padCount payload ≤ 240
-  pub fits : payload + padCount payload + 8 ≤ room
 
-pub auth2-seal-passes : (key payload room k : ℕ) → k ≡ firstOf (auth2SealRows key payload room) → k ≡ 0 → Auth2Sealable key payload room
-unfolding auth2SealRows auth2Size numbered both
-auth2-seal-passes key payload room k e z =
-    let a = first-passes (auth2SealRows key payload room) k refl e z in
-    record { rows = a; eight = is-number key 8 (a .0); short = ltb-false 240 (payload + padCount payload) (a .1 .0); fits = ltb-false room (auth2Size payload) (a .1 .1 .0) }
+pub auth2-seal-passes : (key payload k : ℕ) → k ≡ firstOf (auth2SealRows key payload) → k ≡ 0 → Auth2Sealable key payload
+unfolding auth2SealRows numbered both
+auth2-seal-passes key payload k e z =
+    let a = first-passes (auth2SealRows key payload) k refl e z in
+    record { rows = a; eight = is-number key 8 (a .0); short = ltb-false 240 (payload + padCount payload) (a .1 .0) }
+
+-- the rows by lengths alone, then 16
+pub auth2-seal-steps : (key payload : List ℕ) (room : ℕ)
+    → auth2Sealing key payload room ≡ decide (auth2SealRows (length key) (length payload)) (decide (row 16 (ltb room (auth2Size (length payload))) ∷ []) (accepted 0 (auth2Sealed key payload)))
+unfolding auth2Sealing auth2SealRows decide
+auth2-seal-steps key payload room = refl
 
 -- ---- opening
 

@@ -9,12 +9,12 @@ use lib.ListN.{length, replicate}
 use Rattle.cipher.specs.Fips46.{desEncrypt}
 use Rattle.cipher.proofs.Folds.{under-start, under-done}
 use Rattle.frame.specs.AesFrame.{aesIv}
-use Rattle.frame.specs.DesFrame.{macStart, desMac, desSize, desSealing}
-use Rattle.frame.specs.Number.{numberBytes}
-use Rattle.frame.specs.Outcome.{Outcome, refused, choose, decide}
+use Rattle.frame.specs.DesFrame.{macStart, desMac, desSize, sealRows, desSealing}
+use Rattle.answer.specs.Number.{numberBytes}
+use Rattle.answer.specs.Outcome.{Outcome, refused, choose, decide}
 use Rattle.frame.specs.Padding.{padCount, pad}
 use Rattle.frame.proofs.DesSeals.{size-most}
-use Rattle.frame.proofs.Refusals.{isnt-of, either-of, accepted-zero}
+use Rattle.answer.proofs.Refusals.{isnt-of, either-of, accepted-zero}
 use Rattle.frame.proofs.Sealing.{des-seals}
 
 -- what a string of n bytes gains
@@ -54,5 +54,5 @@ module _ (key id payload : List ℕ) (code number room : ℕ) (hk : length key �
       ap (λ (o : Outcome). o .number) (des-seals id payload code number room key (record { six = hi; all = hk; short = omega arith; fits = f })) ∙ accepted-zero 0 _
 
   pub size-233 : length payload ≡ 233 → desSealing key code number id payload room .number ≡ 12
-  unfolding desSealing decide choose refused
+  unfolding desSealing sealRows decide choose refused
   size-233 e = let l : 232 < length payload = omega arith in rw (either-of _ _ (isnt-of _ (eq-eqb _ _ hi)) (isnt-of _ (eq-eqb _ _ hk)), lt-ltb _ _ l)

@@ -1,25 +1,26 @@
 -- DES opening, step by step. Assumes nothing.
 use mathlib.Core.Path.{_≡_, refl, ap, ap₂, _∙_}
 use mathlib.Core.Bool.{Bool, true, false}
-use mathlib.Core.List.{List}
+use mathlib.Core.List.{List, [], _∷_, _++_}
 use Prim.Native.Nat.{ℕ, _+_, _-_, _%_, _≤_}
 use native.Mathlib.Omega.{arith}
 use borrow.Author.Tests.{ltb-false}
-use lib.Dec.{eqb}
+use lib.Dec.{eqb, ltb}
 use lib.ListN.{length, take, drop, length-drop}
 use lib.Seq.{take-all}
 use Rattle.cipher.specs.Fips46.{desDecrypt}
 use Rattle.cipher.specs.Fold.{underEachBack}
-use Rattle.frame.specs.Outcome.{decide, choose, refused}
-use Rattle.frame.specs.Delivery.{delivering}
-use Rattle.frame.specs.DesFrame.{macStart, recovered, macHolds, desPlain, payloadOf, desOpening}
-use Rattle.frame.specs.DesSteps.{openRows, plainRows, desAccepting}
-use Rattle.frame.specs.Guards.{firstOf}
-use Rattle.frame.specs.Response.{checkedDelivering, parsedDelivering}
-use Rattle.frame.specs.Tests.{isnt, both, same}
-use Rattle.frame.proofs.Decides.{AllFalse, numbered, first-passes, either-false, is-number}
-use Rattle.frame.proofs.Pieces.{no-longer}
-use Rattle.frame.proofs.Sames.{same-is}
+use Rattle.answer.specs.Number.{numberOf}
+use Rattle.answer.specs.Outcome.{Row, row, accepted, decide, choose, refused}
+use Rattle.answer.specs.Delivery.{delivering}
+use Rattle.frame.specs.DesFrame.{macStart, recovered, macHolds, desPlain, payloadOf, desOpening, openRows, plainRows}
+use Rattle.frame.specs.inner.DesSteps.{desAccepting}
+use Rattle.answer.specs.Outcome.{firstOf}
+use Rattle.frame.specs.inner.Response.{checkedDelivering, parsedDelivering}
+use Rattle.answer.specs.Tests.{isnt, both, same}
+use Rattle.answer.proofs.Rows.{AllFalse, numbered, first-passes, either-false, is-number}
+use Rattle.answer.proofs.Pieces.{no-longer}
+use Rattle.answer.proofs.Equality.{same-is}
 
 -- the rest of a list, as a part from e to its end
 pub rest-part : (l : List ℕ) (e : ℕ) → take (length l - e) (drop e l) ≡ drop e l
@@ -96,3 +97,12 @@ open-passes id key sealed k e z =
 pub open-steps : (key id sealed : List ℕ) (code room : ℕ) → desOpening key code id sealed room ≡ decide (openRows (length id) (length key) (length sealed)) (desAccepting code id (desPlain key sealed) room)
 unfolding desOpening openRows desAccepting plainRows delivering decide
 open-steps key id sealed code room = refl
+
+-- all rows in one list
+module _ (key id sealed : List ℕ) (code room : ℕ) where
+  abbrev pub all-rows : List Row
+  all-rows = openRows (length id) (length key) (length sealed) ++ (plainRows code id (desPlain key sealed) ++ (row 16 (ltb room (length (payloadOf (desPlain key sealed)))) ∷ []))
+
+  pub by-rows : desOpening key code id sealed room ≡ decide all-rows (accepted (numberOf (desPlain key sealed)) (payloadOf (desPlain key sealed)))
+  unfolding desOpening openRows plainRows delivering decide
+  by-rows = refl

@@ -4,20 +4,19 @@ use mathlib.Core.List.{List, [], _∷_, _++_}
 use Prim.Native.Nat.{ℕ, suc, _+_, _-_, _/_, _%_, _≤_, _<_}
 use native.Mathlib.Omega.{arith}
 use borrow.Author.Tests.{ltb-false}
-use lib.Dec.{eqb}
+use lib.Dec.{eqb, ltb}
 use lib.ListN.{length, take, drop, set, replicate, length-append, length-set, length-replicate}
 use lib.Seq.{length-take-le}
 use Rattle.cipher.specs.Fips46.{desEncrypt}
 use Rattle.cipher.specs.Sp80038a.{cbcEncrypt, onWhole}
 use Rattle.cipher.proofs.Copies.{length-part}
-use Rattle.frame.specs.Outcome.{over, accepted, decide}
+use Rattle.answer.specs.Outcome.{over, accepted, row, decide}
 use Rattle.frame.specs.Padding.{padCount, pad}
-use Rattle.frame.specs.DesFrame.{desMac, desSeal, header, desSealed, desSize, desSealing}
-use Rattle.frame.specs.Guards.{firstOf}
-use Rattle.frame.specs.DesSteps.{sealRows}
-use Rattle.frame.specs.Tests.{isnt, both}
-use Rattle.frame.proofs.Overs.{front, over-self, over-two, over-over, copied-behind, filled-behind}
-use Rattle.frame.proofs.Decides.{AllFalse, numbered, first-passes, either-false, is-number}
+use Rattle.frame.specs.DesFrame.{desMac, desSeal, header, desSealed, desSize, desSealing, sealRows}
+use Rattle.answer.specs.Outcome.{firstOf}
+use Rattle.answer.specs.Tests.{isnt, both}
+use Rattle.answer.proofs.Outputs.{front, over-self, over-two, over-over, copied-behind, filled-behind}
+use Rattle.answer.proofs.Rows.{AllFalse, numbered, first-passes, either-false, is-number}
 use Rattle.frame.proofs.Fronts.{in-place}
 
 pub pad-low : (n : ℕ) → padCount n < 8
@@ -107,27 +106,24 @@ written-des code number r key id payload o s s′ six e h =
     (h .0, q .0, q .1)
 
 -- what holds where the guard answers 0
-pub record Sealable (id key payload room : ℕ) : Type 0 where
-  pub rows : AllFalse (sealRows id key payload room)
+pub record Sealable (id key payload : ℕ) : Type 0 where
+  pub rows : AllFalse (sealRows id key payload)
   pub six : id ≡ 6
   pub eight : key ≡ 8
   pub short : payload ≤ 232
-  pub fits : desSize payload ≤ room
+  pub some : 0 < desSize payload
+  pub fits : desSize payload ≤ 248
 
-pub seal-passes : (id key payload room k : ℕ) → k ≡ firstOf (sealRows id key payload room) → k ≡ 0 → Sealable id key payload room
-unfolding sealRows numbered both
-seal-passes id key payload room k e z =
-    let a = first-passes (sealRows id key payload room) k refl e z in
+pub seal-passes : (id key payload k : ℕ) → k ≡ firstOf (sealRows id key payload) → k ≡ 0 → Sealable id key payload
+unfolding sealRows numbered both desSize
+seal-passes id key payload k e z =
+    let a = first-passes (sealRows id key payload) k refl e z in
     let b = either-false (isnt (eqb id 6)) (isnt (eqb key 8)) (a .0) in
-    record {
-      rows = a;
-      six = is-number id 6 (b .0);
-      eight = is-number key 8 (b .1);
-      short = ltb-false 232 payload (a .1 .0);
-      fits = ltb-false room (desSize payload) (a .1 .1 .0);
-    }
+    let h = ltb-false 232 payload (a .1 .0) in
+    record { rows = a; six = is-number id 6 (b .0); eight = is-number key 8 (b .1); short = h; some = omega arith; fits = size-most payload h }
 
--- the rows by lengths alone are all
-pub seal-steps : (key id payload : List ℕ) (code number room : ℕ) → desSealing key code number id payload room ≡ decide (sealRows (length id) (length key) (length payload) room) (accepted 0 (desSealed key code number id payload))
-unfolding desSealing sealRows
+-- the rows by lengths alone, then 16
+pub seal-steps : (key id payload : List ℕ) (code number room : ℕ)
+    → desSealing key code number id payload room ≡ decide (sealRows (length id) (length key) (length payload)) (decide (row 16 (ltb room (desSize (length payload))) ∷ []) (accepted 0 (desSealed key code number id payload)))
+unfolding desSealing sealRows decide
 seal-steps key id payload code number room = refl

@@ -16,15 +16,16 @@ use Rattle.cipher.specs.Fold.{underEach, underEachBack}
 use Rattle.cipher.specs.Sp80038a.{cbcEncrypt, cbcDecrypt}
 use Rattle.cipher.proofs.ByteLists.{Block, Bytes-cons, Bytes-append, Bytes-take, Bytes-drop, Bytes-replicate}
 use Rattle.cipher.proofs.Ciphers.{des-cbc-decrypt-encrypt, des-cbc-encrypt-decrypt, length-des-cbc, length-des-cbc-back, Bytes-des-cbc-back, des-under-block, des-back-under, des-under-back}
-use Rattle.frame.specs.Number.{numberOf}
-use Rattle.frame.specs.Outcome.{Outcome, accepted, row}
+use Rattle.answer.specs.Number.{numberOf}
+use Rattle.answer.specs.Outcome.{Outcome, accepted, row, decide}
 use Rattle.frame.specs.Padding.{padCount, pad}
-use Rattle.frame.specs.Tests.{isnt, either, same}
-use Rattle.frame.specs.DesFrame.{macStart, desMac, recovered, macHolds, desSeal, header, desSealed, desSize, desPlain, idOf, payloadOf, desOpening}
+use Rattle.answer.specs.Tests.{isnt, either, same}
+use Rattle.frame.specs.DesFrame.{macStart, desMac, recovered, macHolds, desSeal, header, desSealed, desSize, desPlain, idOf, payloadOf, openRows, plainRows, desOpening}
+use Rattle.frame.proofs.DesOpens.{all-rows, by-rows}
 use Rattle.frame.proofs.Pads.{length-pad, padCount-small, padCount-whole, padCount-header, pad-none, pad-after, Bytes-pad}
-use Rattle.frame.proofs.Decides.{AllFalse, decide-false, isnt-false, either-false}
-use Rattle.frame.proofs.Refusals.{zero-passes, accepted-zero, accepted-number, accepted-bytes, isnt-of, either-of, same-of}
-use Rattle.frame.proofs.Sames.{same-equal}
+use Rattle.answer.proofs.Rows.{AllFalse, decide-false, isnt-false, either-false}
+use Rattle.answer.proofs.Refusals.{zero-passes, accepted-zero, accepted-number, accepted-bytes, isnt-of, either-of, same-of}
+use Rattle.answer.proofs.Equality.{same-equal}
 
 -- ---- pieces
 
@@ -144,7 +145,7 @@ module _ (key id payload : List ℕ) (code number : ℕ) (hk : length key ≡ 8)
 
   -- with room for the padded payload, the opening gives number and padded payload
   pub des-opens-padded : (room : ℕ) → length (pad payload) ≤ room → desOpening key code id (desSealed key code number id payload) room ≡ accepted number (pad payload)
-  unfolding desOpening
+  unfolding openRows plainRows
   des-opens-padded room h =
       let l : length (desSealed key code number id payload) ≡ 16 + (length payload + padCount (length payload)) =
       ap length sealed-is ∙ length-des-cbc key full full-bytes (length full / 8) full-blocks ∙ full-long in
@@ -153,6 +154,7 @@ module _ (key id payload : List ℕ) (code number : ℕ) (hk : length key ≡ 8)
       let long : 16 ≤ length S = omega arith in
       let short : length S ≤ 253 = omega (arith, padCount-whole (length payload), padCount-small (length payload)) in
       let fits : length (payloadOf full) ≤ room = rw payload-is h in
+      let g : decide (all-rows key id S code room) (accepted (numberOf (desPlain key S)) (payloadOf (desPlain key S))) ≡ accepted number (pad payload) =
       rw opened-is
       (decide-false _ _ (
         either-of _ _ (isnt-of _ (eq-eqb _ _ hi)) (isnt-of _ (eq-eqb _ _ hk)),
@@ -173,7 +175,8 @@ module _ (key id payload : List ℕ) (code number : ℕ) (hk : length key ≡ 8)
           ),
         ),
       )
-      ∙ ap₂ accepted number-is payload-is)
+      ∙ ap₂ accepted number-is payload-is) in
+      by-rows key id S code room ∙ g
 
 -- ---- what opens was sealed
 
@@ -214,8 +217,10 @@ module _ (key id d : List ℕ) (code room : ℕ) (hc : code < 256) (bd : Bytes d
       ∷ row 14 (isnt (same (idOf (desPlain key d)) id))
       ∷ row 16 (ltb room (length (payloadOf (desPlain key d))))
       ∷ [])
-  unfolding desOpening
-  none = zero-passes _ _ (lit< tt, (lit< tt, (lit< tt, (lit< tt, (lit< tt, (lit< tt, (lit< tt, tt))))))) zero-answer
+  unfolding openRows plainRows
+  none =
+      zero-passes (all-rows key id d code room) _ (lit< tt, (lit< tt, (lit< tt, (lit< tt, (lit< tt, (lit< tt, (lit< tt, tt)))))))
+      (ap (λ (o : Outcome). o .number) (sym (by-rows key id d code room)) ∙ zero-answer)
 
   id-long : length id ≡ 6
   id-long = eqb-true _ _ (isnt-false _ (either-false _ _ (none .0) .0))
@@ -248,8 +253,8 @@ module _ (key id d : List ℕ) (code room : ℕ) (hc : code < 256) (bd : Bytes d
 
   -- the answer is the work's
   pub des-answer : desOpening key code id d room ≡ accepted (numberOf (desPlain key d)) (payloadOf (desPlain key d))
-  unfolding desOpening
-  des-answer = decide-false _ _ none
+  unfolding openRows plainRows
+  des-answer = by-rows key id d code room ∙ decide-false (all-rows key id d code room) _ none
 
   pub des-number : numberOf (desPlain key d) < 65536
   des-number = omega (arith, p-bytes 0, p-bytes 1)

@@ -11,8 +11,8 @@ use lib.Dec.{eqb}
 use lib.ListN.{length, drop, getD}
 use Rattle.cipher.specs.Bytes.{Bytes}
 use Rattle.cipher.proofs.Numbers.{le-or-lt}
-use Rattle.frame.specs.Number.{numberOf}
-use Rattle.frame.specs.Outcome.{Outcome, refused, accepted, choose}
+use Rattle.answer.specs.Number.{numberOf}
+use Rattle.answer.specs.Outcome.{Outcome, refused, accepted, choose}
 use Rattle.frame.specs.AesFrame.{aesSize, openedPayload}
 use Rattle.frame.specs.DesFrame.{desSize, desPlain, payloadOf}
 use Rattle.frame.specs.Inverse.{Domain, TooLarge, Frames}
@@ -21,9 +21,9 @@ use Rattle.frame.specs.Scheme.{byScheme, sealed, sealing, opening, frame
 use Rattle.frame.proofs.AesTrip.{AesDomain, aes-opens, aes-opens-exactly, aes-refuses-exactly, aes-sealed-long}
 use Rattle.frame.proofs.DesSeals.{size-most}
 use Rattle.frame.proofs.DesTrip.{DesDomain, des-opens, des-opens-exactly, des-refuses-exactly, des-sealed-long}
-use Rattle.frame.proofs.Refusals.{refused-number}
+use Rattle.answer.proofs.Refusals.{refused-number}
 use Rattle.frame.proofs.Rooms.{des-short-room, des-means-short, aes-short-room, aes-means-short}
-use Rattle.frame.proofs.Schemes.{framing-accepted, framing-refused}
+use Rattle.frame.proofs.WorkBlocks.{framing-accepted, framing-refused}
 use Rattle.frame.proofs.Sealing.{des-seals, aes-seals, des-seals-16, aes-seals-16}
 
 -- ---- from what opens where there is room

@@ -5,8 +5,8 @@ use Prim.Native.Nat.{ℕ, _%_, _≤_}
 use lib.ListN.{length, take, drop}
 use Rattle.cipher.specs.Sp80038a.{onWhole}
 use Rattle.cipher.proofs.Modes.{on-whole}
-use Rattle.frame.specs.Outcome.{over}
-use Rattle.frame.proofs.Overs.{front, replaced, copied-over}
+use Rattle.answer.specs.Outcome.{over}
+use Rattle.answer.proofs.Outputs.{front, replaced, copied-over}
 
 module _ (w : ℕ) (f : List ℕ → List ℕ) where
   -- b was written over o, and f done to it in place

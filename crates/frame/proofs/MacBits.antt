@@ -10,7 +10,7 @@ use Rattle.cipher.specs.Fold.{underEach}
 use Rattle.cipher.proofs.Ciphers.{des-under-halves, des-back-halves}
 use Rattle.cipher.proofs.Folds.{length-alike}
 use Rattle.frame.specs.DesFrame.{macStart, desMac, macHolds}
-use Rattle.frame.specs.Tests.{same}
+use Rattle.answer.specs.Tests.{same}
 use Rattle.frame.proofs.DesTrip.{mac-behind}
 
 module _ (code : ℕ) (p q : List ℕ) (e : map (λ x. x / 2) p ≡ map (λ x. x / 2) q) where

@@ -3,9 +3,9 @@ use Prim.Native.Nat.{ℕ, _≤_}
 use mathlib.Core.List.{List}
 use lib.ListN.{length}
 use denote.Ref.{RefT, now}
-use Rattle.frame.specs.Outcome.{Meets}
-use Rattle.frame.specs.Response.{headerOf, Parses, checkedDelivering, parsedDelivering}
-use Rattle.frame.specs.declared.answer.Answer.{Answer}
+use Rattle.answer.specs.Outcome.{Meets}
+use Rattle.frame.specs.inner.Response.{headerOf, Parses, checkedDelivering, parsedDelivering}
+use Rattle.answer.specs.declared.answer.Answer.{Answer}
 use Rattle.frame.specs.declared.des.SecureResponse.{SecureResponse}
 use Rattle.frame.proofs.DesOpens.{short-payload}
 

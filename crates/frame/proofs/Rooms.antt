@@ -8,16 +8,14 @@ use native.Mathlib.Omega.{arith}
 use lib.Dec.{lit<}
 use lib.ListN.{length, getD}
 use Rattle.cipher.proofs.Numbers.{le-or-lt}
-use Rattle.frame.specs.Number.{numberOf}
-use Rattle.frame.specs.Outcome.{Outcome, Row, refused, accepted, row, decide}
-use Rattle.frame.specs.Delivery.{delivering}
-use Rattle.frame.specs.AesFrame.{macKey, aesMac, openedIv, openedPayload, openedMac, aesOpening}
-use Rattle.frame.specs.AesSteps.{aesOpenRows}
-use Rattle.frame.specs.DesFrame.{desPlain, payloadOf, desOpening}
-use Rattle.frame.specs.DesSteps.{openRows, plainRows}
-use Rattle.frame.specs.Tests.{isnt, same}
-use Rattle.frame.proofs.Decides.{AllFalse, decide-false, no-room, room-enough}
-use Rattle.frame.proofs.Refusals.{Numbered, Without, zero-passes, from-work, accepted-zero, accepted-bytes, refused-number}
+use Rattle.answer.specs.Number.{numberOf}
+use Rattle.answer.specs.Outcome.{Outcome, Row, refused, accepted, row, decide}
+use Rattle.answer.specs.Delivery.{delivering}
+use Rattle.frame.specs.AesFrame.{macKey, aesMac, openedIv, openedPayload, openedMac, aesOpening, aesOpenRows}
+use Rattle.frame.specs.DesFrame.{desPlain, payloadOf, desOpening, openRows, plainRows}
+use Rattle.answer.specs.Tests.{isnt, same}
+use Rattle.answer.proofs.Rows.{AllFalse, decide-false, no-room, room-enough}
+use Rattle.answer.proofs.Refusals.{Numbered, Without, zero-passes, from-work, accepted-zero, accepted-bytes, refused-number}
 use Rattle.frame.proofs.Trims.{before16, opening}
 
 -- an opening whose rows, up to 16, do not go by the room

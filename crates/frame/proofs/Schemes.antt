@@ -1,28 +1,21 @@
--- One call for both schemes: what a scheme mark chooses, what an accepted sealing has written, and the frame around it. Assumes nothing.
-use mathlib.Core.Path.{_≡_, refl, sym, ap, ap₂, _∙_}
+-- One call for both schemes: what a scheme mark chooses, and the forecast. Assumes nothing.
+use mathlib.Core.Path.{_≡_, refl, ap, _∙_}
 use mathlib.Core.Bool.{Bool, true, false}
-use mathlib.Core.List.{List, [], _∷_, _++_, append-nil}
-use mathlib.Core.Logic.{_⊎_, inl, inr, ⊎-elim}
-use Prim.Native.Nat.{ℕ, zero, _+_, _-_, _≤_, _<_}
+use mathlib.Core.List.{List, [], _∷_}
+use mathlib.Core.Logic.{_⊎_, inl, inr}
+use Prim.Native.Nat.{ℕ, _≤_, _<_}
 use native.Mathlib.Omega.{arith}
 use borrow.Author.Tests.{eqb-true, ne-eqb, lt-ltb, le-ltb}
 use lib.Dec.{eqb, ltb, lit<}
-use lib.ListN.{length, take, drop, length-drop, take-append-drop, drop-of-length-le}
-use Rattle.cipher.specs.Bytes.{Bytes}
-use Rattle.frame.specs.declared.answer.Answer.{Answer}
-use Rattle.frame.specs.Outcome.{Outcome, Meets, refused, accepted, choose, over, row}
-use Rattle.frame.specs.AesFrame.{aesSealed, aesSize, aesSealing, aesOpening}
-use Rattle.frame.specs.DesFrame.{desSealed, desSize, desSealing, desOpening}
-use Rattle.frame.specs.Scheme.{byScheme, sealing, opening, framed, framing, sealedSize, longest, Forecast}
-use Rattle.frame.specs.Guards.{firstOf}
-use Rattle.frame.specs.Tests.{isnt, either}
-use Rattle.frame.proofs.Decides.{Refused}
-use Rattle.frame.proofs.AesTrip.{aes-sealed-long}
-use Rattle.frame.proofs.DesOpens.{rest-part}
-use Rattle.frame.proofs.DesSeals.{size-most}
-use Rattle.frame.proofs.DesTrip.{des-sealed-long}
-use Rattle.frame.proofs.Refusals.{Whole, refused-whole, choose-whole, refusal-whole}
-use Rattle.frame.proofs.Sealing.{des-seals, aes-seals, des-seals-only, aes-seals-only}
+use Rattle.answer.specs.declared.answer.Answer.{Answer}
+use Rattle.answer.specs.Outcome.{Outcome, refused, row, choose, firstOf}
+use Rattle.frame.specs.AesFrame.{aesSize, aesSealing, aesOpening}
+use Rattle.frame.specs.DesFrame.{desSize, desSealing, desOpening}
+use Rattle.frame.specs.Scheme.{byScheme, sealing, opening, framing, responding, sealedSize, longest, Forecast}
+use Rattle.answer.specs.Tests.{isnt, either}
+use Rattle.answer.proofs.Rows.{Refused}
+use Rattle.answer.proofs.Refusals.{Whole, refused-whole, choose-whole, decide-whole, accepted-whole, delivering-whole}
+use Rattle.frame.proofs.WorkBlocks.{framing-refusal}
 
 -- ---- marks
 
@@ -49,132 +42,28 @@ module _ (s : ℕ) (a b : Outcome) where
       go false e true f = inr (eqb-true s 2 f)
       go false e false f = let n : _≡_ {A = ℕ} 17 0 = rw (e, f) at z in absurd (omega arith)
 
--- ---- what an accepted sealing has written
+-- a response frame is its scheme's
+module _ (scheme : ℕ) (c id payload : List ℕ) (code number room : ℕ) where
+  pub responding-des : scheme ≡ 1 → responding scheme c code number id payload room ≡ responding 1 c code number id payload room
+  responding-des e = ap (λ (s : ℕ). responding s c code number id payload room) e
 
-module _ (scheme code number room : ℕ) (c id payload : List ℕ) (bc : Bytes c) (bi : Bytes id) (bp : Bytes payload) (hc : code < 256) (hn : number < 65536) where
-  abbrev Written : Outcome → Type 0
-  Written o = o .number ≡ 0 → (10 ≤ room) × (length (o .bytes) ≤ 253)
+  pub responding-aes : scheme ≡ 2 → responding scheme c code number id payload room ≡ responding 2 c code number id payload room
+  responding-aes e = ap (λ (s : ℕ). responding s c code number id payload room) e
 
-  des-written : Written (desSealing c code number id payload room)
-  unfolding desSize accepted
-  des-written z =
-      let h = des-seals-only id payload code number room c z in
-      let f = h .fits in
-      let l : length (desSealed c code number id payload) ≡ desSize (length payload) = des-sealed-long c id payload code number (h .all) (h .six) bi hc hn (h .short) bp in
-      let m : length (desSealed c code number id payload) ≤ 253 = omega (arith, size-most (length payload) (h .short)) in
-      (omega arith, rw (des-seals id payload code number room c h) m)
-
-  aes-written : Written (aesSealing c code number id payload room)
-  unfolding aesSize accepted
-  aes-written z =
-      let h = aes-seals-only id payload code number room c z in
-      let f = h .fits in
-      let s = h .short in
-      let l : length (aesSealed c code number id payload) ≡ length payload + 10 = aes-sealed-long c id payload code number (h .all) bc (h .six) bi hc (record { small = hn; short = h .short; bytes = bp }) in
-      let m : length (aesSealed c code number id payload) ≤ 253 = omega arith in
-      (omega arith, rw (aes-seals id payload code number room c h) m)
-
-  pub written : Written (sealing scheme c code number id payload room)
-  unfolding sealing
-  written z =
-      let des : Outcome = desSealing c code number id payload room in
-      let aes : Outcome = aesSealing c code number id payload room in
-      ⊎-elim
-      (λ (e : scheme ≡ 1). let q = mark-des scheme des aes e in rw q (des-written (rw q at z)))
-      (λ (e : scheme ≡ 2). let q = mark-aes scheme des aes e in rw q (aes-written (rw q at z)))
-      (mark-known scheme des aes z)
+  pub responding-unknown : (scheme ≡ 1 → ⊥) → (scheme ≡ 2 → ⊥) → responding scheme c code number id payload room ≡ refused 17
+  unfolding responding sealing
+  responding-unknown h i = ap (framing code) (mark-unknown scheme _ _ h i) ∙ framing-refusal code 17 (λ e. omega arith)
 
 -- a refusal of sealing or opening is all of its outcome
 pub sealing-whole : (scheme code number room : ℕ) (c id payload : List ℕ) → Whole (sealing scheme c code number id payload room)
 unfolding sealing byScheme desSealing aesSealing
 sealing-whole scheme code number room c id payload =
-    choose-whole (eqb scheme 1) _ _ (refusal-whole _ 0 _) (choose-whole (eqb scheme 2) _ _ (refusal-whole _ 0 _) (refused-whole 17))
+    choose-whole (eqb scheme 1) _ _ (decide-whole _ _ (accepted-whole 0 _)) (choose-whole (eqb scheme 2) _ _ (decide-whole _ _ (accepted-whole 0 _)) (refused-whole 17))
 
 pub opening-whole : (scheme code room : ℕ) (c id d : List ℕ) → Whole (opening scheme c code id d room)
 unfolding opening byScheme desOpening aesOpening
 opening-whole scheme code room c id d =
-    choose-whole (eqb scheme 1) _ _ (refusal-whole _ _ _) (choose-whole (eqb scheme 2) _ _ (refusal-whole _ _ _) (refused-whole 17))
-
-pub unwritten : (scheme code number room : ℕ) (c id payload : List ℕ) → (sealing scheme c code number id payload room .number ≡ 0 → ⊥) → sealing scheme c code number id payload room .bytes ≡ []
-unfolding refused
-unwritten scheme code number room c id payload h = ap (λ (o : Outcome). o .bytes) (sealing-whole scheme code number room c id payload h)
-
--- ---- the frame around it
-
--- a refusal stays
-pub framing-refused : (code : ℕ) (o : Outcome) → (o .number ≡ 0 → ⊥) → framing code o ≡ o
-unfolding framing choose
-framing-refused code o h = rw (ne-eqb (o .number) 0 h)
-
-pub framing-accepted : (code : ℕ) (o : Outcome) → o .number ≡ 0 → framing code o ≡ accepted 0 (framed code (o .bytes))
-unfolding framing choose
-framing-accepted code o h = rw h
-
--- two bytes in front of what was written behind them
-over-front : (x y : ℕ) (b o : List ℕ) → 2 ≤ length o → over (x ∷ y ∷ []) (take 2 o ++ over b (drop 2 o)) ≡ over (x ∷ y ∷ b) o
-unfolding over
-over-front x y b [] h = absurd (omega arith)
-over-front x y b (p ∷ []) h = absurd (omega arith)
-over-front x y b (p ∷ q ∷ o) h = refl
-
--- the sealing q went into the output o from `start` on, and left r and `last` there
-module _ (q : ℕ → Outcome) (code start : ℕ) (o last : List ℕ) (r : Answer) (inside : start ≤ length o) (leaves : length o - start ≡ length o - 2)
-    (m : Meets (q (length (take (length o - start) (drop start o)))) r (take (length o - start) (drop start o)) last) where
-  part-is : take (length o - start) (drop start o) ≡ drop start o
-  part-is = rest-part o start
-
-  room-is : length (take (length o - start) (drop start o)) ≡ length o - 2
-  room-is = ap length part-is ∙ length-drop start o ∙ leaves
-
-  nothing-behind : drop (length o - start) (drop start o) ≡ []
-  nothing-behind = let e : length (drop start o) ≤ length o - start = rw length-drop (omega arith) in drop-of-length-le (drop start o) e
-
-  abbrev after : List ℕ
-  after = take start o ++ (last ++ drop (length o - start) (drop start o))
-
-  after-is : after ≡ take start o ++ over (q (length o - 2) .bytes) (drop start o)
-  after-is = ap₂ (λ (x y : List ℕ). take start o ++ (x ++ y)) (m .output ∙ ap₂ (λ (k : ℕ) (l : List ℕ). over (q k .bytes) l) room-is part-is) nothing-behind ∙ ap (λ (x : List ℕ). take start o ++ x) (append-nil _)
-
-  -- the answer's number is that of the sealing with two bytes less
-  number-is : r .number ≡ q (length o - 2) .number
-  number-is = m .number ∙ ap (λ (k : ℕ). q k .number) room-is
-
-  length-is : r .length ≡ length (q (length o - 2) .bytes)
-  length-is = m .length-is ∙ ap (λ (k : ℕ). length (q k .bytes)) room-is
-
-  pub response-refused : (r .number ≡ 0 → ⊥) → ((k : ℕ) → (q k .number ≡ 0 → ⊥) → q k .bytes ≡ []) → Meets (framing code (q (length o - 2))) r o after
-  unfolding over
-  response-refused h empty =
-      let n : q (length o - 2) .number ≡ 0 → ⊥ = λ e. h (number-is ∙ e) in
-      rw (framing-refused code (q (length o - 2)) n)
-      (record {
-        number = number-is;
-        length-is = length-is;
-        transaction = m .transaction ∙ ap (λ (k : ℕ). q k .transaction) room-is;
-        output = after-is ∙ rw (empty (length o - 2) n) (take-append-drop start o);
-      })
-
-  -- it was accepted: length byte and code then go over the front
-  module _ (zero : r .number ≡ 0) (wrote : (k : ℕ) → q k .number ≡ 0 → (10 ≤ k) × (length (q k .bytes) ≤ 253)) where
-    wrote-here : (10 ≤ length o - 2) × (length (q (length o - 2) .bytes) ≤ 253)
-    wrote-here = wrote (length o - 2) (sym number-is ∙ zero)
-
-    pub response-fits : (r .length ≤ 253) × (2 ≤ length o)
-    response-fits = (rw length-is (wrote-here .1), omega (arith, wrote-here .0))
-
-    pub response-accepted : (f : Answer) (s : List ℕ) → (f .number ≡ 0) × (f .length ≡ r .length + 2) × (f .«transaction_number» ≡ 0)
-        → s ≡ over ((r .length + 2) ∷ code ∷ []) after → Meets (framing code (q (length o - 2))) f o s
-    unfolding framed accepted
-    response-accepted f s h e =
-        let b : List ℕ = q (length o - 2) .bytes in
-        let two : start ≡ 2 = omega (arith, wrote-here .0) in
-        rw (framing-accepted code (q (length o - 2)) (sym number-is ∙ zero))
-        (record {
-          number = h .0;
-          length-is = h .1 ∙ rw length-is (omega arith);
-          transaction = h .2;
-          output = e ∙ ap (over ((r .length + 2) ∷ code ∷ [])) after-is ∙ rw (two, length-is) (over-front (length b + 2) code b o (response-fits .1));
-        })
+    choose-whole (eqb scheme 1) _ _ (decide-whole _ _ (delivering-whole _ _ room)) (choose-whole (eqb scheme 2) _ _ (decide-whole _ _ (delivering-whole _ _ room)) (refused-whole 17))
 
 -- ---- the forecast
 

@@ -9,16 +9,15 @@ use lib.ListN.{length, take, getD, length-take}
 use Rattle.cipher.specs.Bytes.{Bytes}
 use Rattle.cipher.proofs.Ciphers.{length-des-cbc-back}
 use Rattle.cipher.proofs.Numbers.{le-or-lt}
-use Rattle.frame.specs.Number.{numberOf}
-use Rattle.frame.specs.Delivery.{delivering}
-use Rattle.frame.specs.DesFrame.{desPlain, payloadOf, desOpening}
-use Rattle.frame.specs.DesSteps.{openRows, plainRows}
-use Rattle.frame.specs.Guards.{firstOf}
-use Rattle.frame.specs.Outcome.{Outcome, Row, refused, accepted, decide}
-use Rattle.frame.specs.Tests.{both}
+use Rattle.answer.specs.Number.{numberOf}
+use Rattle.answer.specs.Delivery.{delivering}
+use Rattle.frame.specs.DesFrame.{desPlain, payloadOf, desOpening, openRows, plainRows}
+use Rattle.answer.specs.Outcome.{firstOf}
+use Rattle.answer.specs.Outcome.{Outcome, Row, refused, accepted, decide}
+use Rattle.answer.specs.Tests.{both}
 use Rattle.frame.specs.Trimmed.{trimCount, trim, trimmedOpening}
-use Rattle.frame.proofs.Decides.{AllFalse, numbered, first-refuses, first-passes, decide-false, is-number, room-enough}
-use Rattle.frame.proofs.Pieces.{no-longer}
+use Rattle.answer.proofs.Rows.{AllFalse, numbered, first-refuses, first-passes, decide-false, is-number, room-enough}
+use Rattle.answer.proofs.Pieces.{no-longer}
 
 -- nothing is left of a payload that is no longer than what is dropped
 pub trim-short : (l : List ℕ) → length l ≤ trimCount (getD l (length l - 1) 0) → take 0 l ≡ trim l

@@ -6,9 +6,10 @@ use lib.ListN.{length, take, drop}
 use Rattle.cipher.specs.Fips197.{aesEncrypt}
 use Rattle.cipher.specs.Sp80038a.{blocks, ofb, ofbInput}
 use Rattle.cipher.specs.Sp80038b.{cmac, R128}
-use Rattle.frame.specs.Number.{numberBytes, numberOf}
-use Rattle.frame.specs.Outcome.{Outcome, accepted, row, decide}
-use Rattle.frame.specs.Tests.{isnt, either, same}
+use Rattle.answer.specs.Number.{numberBytes, numberOf}
+use Rattle.answer.specs.Delivery.{delivering}
+use Rattle.answer.specs.Outcome.{Outcome, Row, accepted, row, decide}
+use Rattle.answer.specs.Tests.{isnt, either, same}
 
 -- the credentials: cipher key 16, MAC key 16, Challenge 3C 4
 unfoldable pub cipherKey : List ℕ → List ℕ
@@ -47,11 +48,13 @@ aesSealed c code number id payload =
 unfoldable pub aesSize : ℕ → ℕ
 aesSize n = n + 10
 
+-- 17 and 12, by lengths of ID, credentials and payload
+unfoldable pub aesSealRows : ℕ → ℕ → ℕ → List Row
+aesSealRows id credentials payload = row 17 (either (isnt (eqb id 6)) (isnt (eqb credentials 36))) ∷ row 12 (ltb 243 payload) ∷ []
+
 unfoldable pub aesSealing : List ℕ → ℕ → ℕ → List ℕ → List ℕ → ℕ → Outcome
 aesSealing c code number id payload room =
-    decide
-    (row 17 (either (isnt (eqb (length id) 6)) (isnt (eqb (length c) 36))) ∷ row 12 (ltb 243 (length payload)) ∷ row 16 (ltb room (aesSize (length payload))) ∷ [])
-    (accepted 0 (aesSealed c code number id payload))
+    decide (aesSealRows (length id) (length c) (length payload) ++ (row 16 (ltb room (aesSize (length payload))) ∷ [])) (accepted 0 (aesSealed c code number id payload))
 
 -- ---- opening: n is the length of the payload
 
@@ -65,14 +68,13 @@ unfoldable pub openedMac : List ℕ → ℕ → List ℕ → List ℕ → List �
 openedMac c code id sealed =
     ofb (aesEncrypt (cipherKey c)) 16 (macInput (cipherKey c) (openedIv c code id sealed) (length sealed - 10)) (drop (length sealed - 8) sealed)
 
+-- 17, 11 and 12, by lengths of ID, credentials and sealed data
+unfoldable pub aesOpenRows : ℕ → ℕ → ℕ → List Row
+aesOpenRows id credentials sealed = row 17 (either (isnt (eqb id 6)) (isnt (eqb credentials 36))) ∷ row 11 (ltb sealed 10) ∷ row 12 (ltb 253 sealed) ∷ []
+
+-- then 13, the MAC against the one that the payload has to have; then 16, with the delivery
 unfoldable pub aesOpening : List ℕ → ℕ → List ℕ → List ℕ → ℕ → Outcome
 aesOpening c code id sealed room =
     let payload = openedPayload c code id sealed in
-    decide
-    (row 17 (either (isnt (eqb (length id) 6)) (isnt (eqb (length c) 36)))
-    ∷ row 11 (ltb (length sealed) 10)
-    ∷ row 12 (ltb 253 (length sealed))
-    ∷ row 13 (isnt (same (openedMac c code id sealed) (aesMac (macKey c) (openedIv c code id sealed) payload)))
-    ∷ row 16 (ltb room (length payload))
-    ∷ [])
-    (accepted (numberOf sealed) payload)
+    let wanted = aesMac (macKey c) (openedIv c code id sealed) payload in
+    decide (aesOpenRows (length id) (length c) (length sealed) ++ (row 13 (isnt (same (openedMac c code id sealed) wanted)) ∷ [])) (delivering (numberOf sealed) payload room)

@@ -1,15 +1,15 @@
 -- Authentication 2. DES: a payload to which no header is added, sealed under code 0x13; its opening gives all but the MAC, padding too.
 -- AES: sealed data under code 0x43. Assumes nothing.
 use Prim.Native.Nat.{ℕ, _+_, _-_, _%_}
-use mathlib.Core.List.{List, [], _∷_}
+use mathlib.Core.List.{List, [], _∷_, _++_}
 use lib.Dec.{eqb, ltb}
 use lib.ListN.{length, take}
-use Rattle.frame.specs.Outcome.{Outcome, Row, accepted, row, decide}
+use Rattle.answer.specs.Outcome.{Outcome, Row, accepted, row, decide}
 use Rattle.frame.specs.AesFrame.{aesOpening}
 use Rattle.frame.specs.DesFrame.{macHolds, desSeal, desPlain}
-use Rattle.frame.specs.Delivery.{delivering}
+use Rattle.answer.specs.Delivery.{delivering}
 use Rattle.frame.specs.Padding.{padCount, pad}
-use Rattle.frame.specs.Tests.{isnt, either}
+use Rattle.answer.specs.Tests.{isnt, either}
 
 abbrev pub auth2Code : ℕ
 auth2Code = 0x13
@@ -23,13 +23,13 @@ auth2Sealed key payload = desSeal key auth2Code (pad payload)
 unfoldable pub auth2Size : ℕ → ℕ
 auth2Size n = n + padCount n + 8
 
--- lengths of key, payload and output; 12 is about the padded payload
-unfoldable pub auth2SealRows : ℕ → ℕ → ℕ → List Row
-auth2SealRows key payload room =
-    row 17 (isnt (eqb key 8)) ∷ row 12 (ltb 240 (payload + padCount payload)) ∷ row 16 (ltb room (auth2Size payload)) ∷ []
+-- 17 and 12, by lengths of key and payload; 12 is about the padded payload
+unfoldable pub auth2SealRows : ℕ → ℕ → List Row
+auth2SealRows key payload = row 17 (isnt (eqb key 8)) ∷ row 12 (ltb 240 (payload + padCount payload)) ∷ []
 
 unfoldable pub auth2Sealing : List ℕ → List ℕ → ℕ → Outcome
-auth2Sealing key payload room = decide (auth2SealRows (length key) (length payload) room) (accepted 0 (auth2Sealed key payload))
+auth2Sealing key payload room =
+    decide (auth2SealRows (length key) (length payload) ++ (row 16 (ltb room (auth2Size (length payload))) ∷ [])) (accepted 0 (auth2Sealed key payload))
 
 -- ---- opening
 

@@ -7,10 +7,11 @@ use lib.ListN.{length, take, drop, replicate}
 use Rattle.cipher.specs.Fips46.{desEncrypt, desDecrypt}
 use Rattle.cipher.specs.Fold.{underEach, underEachBack}
 use Rattle.cipher.specs.Sp80038a.{cbcEncrypt, cbcDecrypt}
-use Rattle.frame.specs.Number.{numberBytes, numberOf}
-use Rattle.frame.specs.Outcome.{Outcome, accepted, row, decide}
+use Rattle.answer.specs.Number.{numberBytes, numberOf}
+use Rattle.answer.specs.Delivery.{delivering}
+use Rattle.answer.specs.Outcome.{Outcome, Row, accepted, row, decide}
 use Rattle.frame.specs.Padding.{padCount, pad}
-use Rattle.frame.specs.Tests.{isnt, either, same}
+use Rattle.answer.specs.Tests.{isnt, either, same}
 
 -- ---- the MAC
 
@@ -47,11 +48,13 @@ desSealed key code number id payload = desSeal key code (pad (header number id +
 unfoldable pub desSize : ℕ → ℕ
 desSize n = n + 8 + padCount (n + 8) + 8
 
+-- 17 and 12, by lengths of ID, key and payload
+unfoldable pub sealRows : ℕ → ℕ → ℕ → List Row
+sealRows id key payload = row 17 (either (isnt (eqb id 6)) (isnt (eqb key 8))) ∷ row 12 (ltb 232 payload) ∷ []
+
 unfoldable pub desSealing : List ℕ → ℕ → ℕ → List ℕ → List ℕ → ℕ → Outcome
 desSealing key code number id payload room =
-    decide
-    (row 17 (either (isnt (eqb (length id) 6)) (isnt (eqb (length key) 8))) ∷ row 12 (ltb 232 (length payload)) ∷ row 16 (ltb room (desSize (length payload))) ∷ [])
-    (accepted 0 (desSealed key code number id payload))
+    decide (sealRows (length id) (length key) (length payload) ++ (row 16 (ltb room (desSize (length payload))) ∷ [])) (accepted 0 (desSealed key code number id payload))
 
 -- ---- opening
 
@@ -65,16 +68,21 @@ idOf plain = take 6 (drop 2 plain)
 unfoldable pub payloadOf : List ℕ → List ℕ
 payloadOf plain = take (length plain - 16) (drop 8 plain)
 
+-- 17, 10, 11 and 12, by lengths of ID, key and sealed data
+unfoldable pub openRows : ℕ → ℕ → ℕ → List Row
+openRows id key sealed =
+    row 17 (either (isnt (eqb id 6)) (isnt (eqb key 8)))
+    ∷ row 10 (isnt (eqb (sealed % 8) 0))
+    ∷ row 11 (ltb sealed 16)
+    ∷ row 12 (ltb 253 sealed)
+    ∷ []
+
+-- 13 and 14, by what the plain text shows
+unfoldable pub plainRows : ℕ → List ℕ → List ℕ → List Row
+plainRows code id plain = row 13 (isnt (macHolds code plain)) ∷ row 14 (isnt (same (idOf plain) id)) ∷ []
+
+-- then 16, with the delivery
 unfoldable pub desOpening : List ℕ → ℕ → List ℕ → List ℕ → ℕ → Outcome
 desOpening key code id sealed room =
     let plain = desPlain key sealed in
-    decide
-    (row 17 (either (isnt (eqb (length id) 6)) (isnt (eqb (length key) 8)))
-    ∷ row 10 (isnt (eqb (length sealed % 8) 0))
-    ∷ row 11 (ltb (length sealed) 16)
-    ∷ row 12 (ltb 253 (length sealed))
-    ∷ row 13 (isnt (macHolds code plain))
-    ∷ row 14 (isnt (same (idOf plain) id))
-    ∷ row 16 (ltb room (length (payloadOf plain)))
-    ∷ [])
-    (accepted (numberOf plain) (payloadOf plain))
+    decide (openRows (length id) (length key) (length sealed) ++ plainRows code id plain) (delivering (numberOf plain) (payloadOf plain) room)

@@ -5,7 +5,7 @@ use mathlib.Core.Logic.{_↔_}
 use Prim.Native.Nat.{ℕ, _%_, _≤_, _<_}
 use lib.ListN.{length}
 use Rattle.cipher.specs.Bytes.{Bytes}
-use Rattle.frame.specs.Outcome.{refused, accepted}
+use Rattle.answer.specs.Outcome.{refused, accepted}
 use Rattle.frame.specs.Scheme.{sealed, sealing, opening, sealedSize, longest}
 
 -- what sealed data carries: a number of 16 bits and up to 243 bytes for AES; in whole blocks, up to 232 for DES

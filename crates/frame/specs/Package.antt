@@ -6,8 +6,8 @@ use lib.ListN.{length, drop, replicate}
 use Rattle.cipher.specs.Bytes.{_⊕_}
 use Rattle.cipher.specs.Fips46.{desEncrypt}
 use Rattle.cipher.specs.Sp80038a.{cbcEncrypt}
-use Rattle.frame.specs.Outcome.{Outcome, Row, accepted, row, decide}
-use Rattle.frame.specs.Tests.{isnt, either}
+use Rattle.answer.specs.Outcome.{Outcome, Row, accepted, row, decide}
+use Rattle.answer.specs.Tests.{isnt, either}
 
 -- each bit of the key turned
 unfoldable pub complement : List ℕ → List ℕ

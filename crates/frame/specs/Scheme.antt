@@ -5,11 +5,11 @@ use mathlib.Core.Path.{_≡_}
 use mathlib.Core.List.{List, [], _∷_}
 use lib.Dec.{eqb, ltb}
 use lib.ListN.{length}
-use Rattle.frame.specs.Outcome.{Outcome, refused, accepted, row, choose}
+use Rattle.answer.specs.Outcome.{Outcome, refused, accepted, row, choose}
 use Rattle.frame.specs.DesFrame.{desSize, desSealed, desSealing, desOpening}
 use Rattle.frame.specs.AesFrame.{aesSize, aesSealed, aesSealing, aesOpening}
-use Rattle.frame.specs.Guards.{firstOf}
-use Rattle.frame.specs.Tests.{isnt, either}
+use Rattle.answer.specs.Outcome.{firstOf}
+use Rattle.answer.specs.Tests.{isnt, either}
 
 -- the outcome of the scheme that the mark names
 unfoldable pub byScheme : ℕ → Outcome → Outcome → Outcome

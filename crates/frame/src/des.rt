@@ -1,24 +1,19 @@
-// Secure messaging over DES: Authentication 2, opening, the MAC, sealing, registration packages (des.rs, in its order).
-use crate::answer;
-use crate::answer::Answer;
-use crate::deliver;
-use crate::fixed;
-use crate::number;
-use crate::secure;
+// Secure messaging over DES: Authentication 2, opening, the MAC, sealing (des.rs, in its order; registration packages are in package.rt).
+
+use crate::command;
+use answer::Answer;
 ghost use mathlib.Core.Path.{_≡_};
 ghost use mathlib.Core.Bool.{true};
 ghost use Prim.Native.Nat.{_+_, _-_, _*_, _%_, _≤_, _<_};
 ghost use lib.ListN.{length, take};
-ghost use Rattle.frame.specs.Outcome.{Meets, over};
+ghost use Rattle.answer.specs.Outcome.{Meets, firstOf, over};
 ghost use Rattle.frame.specs.Padding.{padCount, pad};
-ghost use Rattle.frame.specs.DesFrame.{macStart, desMac, macHolds, desSeal, header, desSealed, desSize, desSealing, desPlain, desOpening};
-ghost use Rattle.frame.specs.Guards.{firstOf};
-ghost use Rattle.frame.specs.DesSteps.{sealRows, openRows, desAccepting};
-ghost use Rattle.frame.specs.Response.{headerOf, PayloadIn, Parses, checkedDelivering, parsedDelivering};
+ghost use Rattle.frame.specs.DesFrame.{macStart, desMac, macHolds, desSeal, header, desSealed, desSize, sealRows, desSealing, desPlain, openRows, desOpening};
+ghost use Rattle.frame.specs.inner.DesSteps.{desAccepting};
+ghost use Rattle.frame.specs.inner.Response.{headerOf, PayloadIn, Parses, checkedDelivering, parsedDelivering};
 ghost use Rattle.frame.specs.Authentication2.{auth2SealRows, auth2Sealing, auth2OpenRows, auth2Accepting, auth2Opening};
 ghost use Rattle.frame.specs.Scheme.{responding};
 ghost use Rattle.frame.specs.Trimmed.{trimCount, trim, trimmedOpening};
-ghost use Rattle.frame.specs.Package.{packageCipher, packageMac, packaged, packageRows, packaging};
 
 const AUTHENTICATION2_CODE: u8 = 0x13;
 
@@ -60,7 +55,7 @@ fn accept_authentication2(plain: &[u8], out: &mut [u8]) -> Answer
     if !check_packet_mac_des(plain, AUTHENTICATION2_CODE) {
         return answer::refused(13);
     }
-    deliver::deliver(0, strip_des_response_mac(plain), out)
+    answer::deliver(0, strip_des_response_mac(plain), out)
 }
 
 // Opens an Authentication 2 response; header and padding stay.
@@ -73,22 +68,19 @@ pub fn decrypt_authentication2_payload(key: &[u8], data: &[u8], out: &mut [u8]) 
         return answer::refused(refusal);
     }
     let mut work = [0u8; 256];
-    decrypt_over(fixed::eight(key), data, &mut work);
+    decrypt_over(answer::eight(key), data, &mut work);
     accept_authentication2(&work[..n], out)
 }
 
-// 17, 12 and 16 of sealing an Authentication 2 payload; 0 to go on.
-fn guard_authentication2_seal(key_len: usize, payload_len: usize, room: usize) -> u8
-    ensures { λ r. ⌜ r ≡ firstOf (auth2SealRows «key_len» «payload_len» room) ⌝ }
+// 17 and 12 of sealing an Authentication 2 payload; 0 to go on.
+fn guard_authentication2_seal(key_len: usize, payload_len: usize) -> u8
+    ensures { λ r. ⌜ r ≡ firstOf (auth2SealRows «key_len» «payload_len») ⌝ }
 {
     if key_len != 8 {
         return 17;
     }
     if 240 < payload_len {
         return 12;
-    }
-    if room < payload_len + pad_count(payload_len) + 8 {
-        return 16;
     }
     0
 }
@@ -98,17 +90,14 @@ pub fn encrypt_authentication2_payload(key: &[u8], payload: &[u8], out: &mut [u8
     ensures { λ r. ⌜ Meets (auth2Sealing (now (key .entry)) (now (payload .entry)) (length (now (out .entry)))) r (now (out .entry)) (now (out .exit)) ⌝ }
 {
     let n = payload.len();
-    let refusal = guard_authentication2_seal(key.len(), n, out.len());
+    let refusal = guard_authentication2_seal(key.len(), n);
     if refusal != 0 {
         return answer::refused(refusal);
     }
-    cipher::copy(payload, out);
-    let length = seal_front(AUTHENTICATION2_CODE, fixed::eight(key), out, n);
-    Answer {
-        number: 0,
-        length: length as u16,
-        transaction_number: 0,
-    }
+    let mut work = [0u8; 256];
+    cipher::copy(payload, &mut work);
+    let end = seal_front(AUTHENTICATION2_CODE, answer::eight(key), &mut work, n);
+    answer::deliver(0, &work[0..end], out)
 }
 
 // What a response says before its payload.
@@ -129,8 +118,8 @@ fn parse_header(plain: &[u8]) -> SecureResponseHeader
     requires { ⌜ 8 ≤ length (now plain) ⌝ }
     ensures { λ r. ⌜ r ≡ headerOf (now (plain .entry)) ⌝ }
 {
-    let transaction_number = number::transaction_number(plain);
-    let transaction_id = fixed::six(&plain[2..8]);
+    let transaction_number = answer::transaction_number(plain);
+    let transaction_id = answer::six(&plain[2..8]);
     SecureResponseHeader {
         transaction_number,
         transaction_id,
@@ -179,7 +168,7 @@ fn deliver_checked(
     if !same_id(transaction_id, id) {
         return answer::refused(14);
     }
-    deliver::deliver(transaction_number, payload, out)
+    answer::deliver(transaction_number, payload, out)
 }
 
 impl<'a> SecureResponse<'a> {
@@ -227,7 +216,7 @@ fn accept_des(code: u8, id: &[u8], plain: &[u8], out: &mut [u8]) -> Answer
     if !check_packet_mac_des(plain, code) {
         return answer::refused(13);
     }
-    parse_and_deliver(fixed::six(id), plain, out)
+    parse_and_deliver(answer::six(id), plain, out)
 }
 
 // 17, 10, 11 and 12 of opening; 0 to go on.
@@ -253,7 +242,13 @@ fn guard_open_des(id_len: usize, key_len: usize, data_len: usize) -> u8
 }
 
 // Opens a sealed command or response. The trial plain text stands in a work block, so that a refusal shows none of it.
-pub fn open_des(code: u8, id: &[u8], key: &[u8], data: &[u8], out: &mut [u8]) -> Answer
+pub fn decrypt_secure_response_des(
+    code: u8,
+    id: &[u8],
+    key: &[u8],
+    data: &[u8],
+    out: &mut [u8],
+) -> Answer
     ensures { λ r. ⌜ Meets (desOpening (now (key .entry)) code (now (id .entry)) (now («data» .entry)) (length (now (out .entry)))) r (now (out .entry)) (now (out .exit)) ⌝ }
 {
     let n = data.len();
@@ -262,7 +257,7 @@ pub fn open_des(code: u8, id: &[u8], key: &[u8], data: &[u8], out: &mut [u8]) ->
         return answer::refused(refusal);
     }
     let mut work = [0u8; 256];
-    decrypt_over(fixed::eight(key), data, &mut work);
+    decrypt_over(answer::eight(key), data, &mut work);
     accept_des(code, id, &work[..n], out)
 }
 
@@ -295,19 +290,25 @@ fn trim_payload(payload: &[u8]) -> &[u8]
     &payload[..end]
 }
 
-// Opens as open_des does, and trims the payload.
-pub fn open_trimmed_des(code: u8, id: &[u8], key: &[u8], data: &[u8], out: &mut [u8]) -> Answer
+// Opens as decrypt_secure_response_des does, and trims the payload.
+pub fn decrypt_secure_response_trimmed_des(
+    code: u8,
+    id: &[u8],
+    key: &[u8],
+    data: &[u8],
+    out: &mut [u8],
+) -> Answer
     ensures { λ r. ⌜ Meets (trimmedOpening (now (key .entry)) code (now (id .entry)) (now («data» .entry)) (length (now (out .entry)))) r (now (out .entry)) (now (out .exit)) ⌝ }
 {
     let mut work = [0u8; 256];
-    let opened = open_des(code, id, key, data, &mut work);
+    let opened = decrypt_secure_response_des(code, id, key, data, &mut work);
     let refusal = opened.number;
     if refusal != 0 {
         return answer::refused(refusal);
     }
     let n = opened.length as usize;
     let payload = trim_payload(&work[..n]);
-    deliver::deliver(opened.transaction_number, payload, out)
+    answer::deliver(opened.transaction_number, payload, out)
 }
 
 // A payload without the MAC that follows it.
@@ -340,7 +341,7 @@ pub(crate) fn check_packet_mac_des(plain: &[u8], code: u8) -> bool
     ensures { λ r. ⌜ r ≡ macHolds code (now (plain .entry)) ⌝ }
 {
     let end = plain.len() - 8;
-    let mac = fixed::eight(&plain[end..]);
+    let mac = answer::eight(&plain[end..]);
     let recovered = cipher::decrypt_des_under_each(mac, &plain[..end]);
     let start = mac_start(plain.len() + 2, code);
     cipher::ct_eq(&recovered, &start)
@@ -414,9 +415,9 @@ fn write_des(
     seal_front(code, key, out, payload.len() + 8)
 }
 
-// 17, 12 and 16 of sealing; 0 to go on.
-fn guard_seal_des(id_len: usize, key_len: usize, payload_len: usize, room: usize) -> u8
-    ensures { λ r. ⌜ r ≡ firstOf (sealRows «id_len» «key_len» «payload_len» room) ⌝ }
+// 17 and 12 of sealing; 0 to go on.
+fn guard_seal_des(id_len: usize, key_len: usize, payload_len: usize) -> u8
+    ensures { λ r. ⌜ r ≡ firstOf (sealRows «id_len» «key_len» «payload_len») ⌝ }
 {
     if id_len != 6 {
         return 17;
@@ -427,14 +428,11 @@ fn guard_seal_des(id_len: usize, key_len: usize, payload_len: usize, room: usize
     if 232 < payload_len {
         return 12;
     }
-    if room < size_des(payload_len) {
-        return 16;
-    }
     0
 }
 
-// Seals a command or a response with its transaction number and ID under the session key.
-pub fn seal_des(
+// Seals a command or a response with its transaction number and ID under the session key, in a work block.
+pub fn encrypt_secure_request_des(
     code: u8,
     number: u16,
     id: &[u8],
@@ -444,26 +442,23 @@ pub fn seal_des(
 ) -> Answer
     ensures { λ r. ⌜ Meets (desSealing (now (key .entry)) code number (now (id .entry)) (now (payload .entry)) (length (now (out .entry)))) r (now (out .entry)) (now (out .exit)) ⌝ }
 {
-    let refusal = guard_seal_des(id.len(), key.len(), payload.len(), out.len());
+    let refusal = guard_seal_des(id.len(), key.len(), payload.len());
     if refusal != 0 {
         return answer::refused(refusal);
     }
-    let length = write_des(
+    let mut work = [0u8; 256];
+    let end = write_des(
         code,
         number,
-        fixed::six(id),
-        fixed::eight(key),
+        answer::six(id),
+        answer::eight(key),
         payload,
-        out,
+        &mut work,
     );
-    Answer {
-        number: 0,
-        length: length as u16,
-        transaction_number: 0,
-    }
+    answer::deliver(0, &work[0..end], out)
 }
 
-// Makes a response frame under the session key.
+// Makes a response frame under the session key, in a work block.
 pub fn build_secure_response_frame_des(
     code: u8,
     number: u16,
@@ -474,73 +469,19 @@ pub fn build_secure_response_frame_des(
 ) -> Answer
     ensures { λ r. ⌜ Meets (responding 1 (now (key .entry)) code number (now (id .entry)) (now (payload .entry)) (length (now (out .entry)))) r (now (out .entry)) (now (out .exit)) ⌝ }
 {
-    secure::build_secure_response_frame(1, code, number, id, key, payload, out)
-}
-
-// 17, 10, 12 and 16 of a registration package; 0 to go on.
-fn guard_package(key_len: usize, plain_len: usize, room: usize) -> u8
-    ensures { λ r. ⌜ r ≡ firstOf (packageRows «key_len» «plain_len» room) ⌝ }
-{
-    if key_len != 8 {
-        return 17;
-    }
-    if plain_len == 0 {
-        return 10;
-    }
-    if plain_len % 8 != 0 {
-        return 10;
-    }
-    if 4096 < plain_len {
-        return 12;
-    }
-    if room < plain_len + 8 {
-        return 16;
-    }
-    0
-}
-
-// The last CBC block under the complemented key. out holds the cipher text meanwhile.
-fn package_mac(key: [u8; 8], plain: &[u8], out: &mut [u8]) -> [u8; 8]
-    requires { ⌜ length (now plain) % 8 ≡ 0 ⌝ }
-    requires { ⌜ 8 ≤ length (now plain) ⌝ }
-    requires { ⌜ length (now plain) ≤ length (now out) ⌝ }
-    ensures { λ r. ⌜ (r ≡ packageMac key (now (plain .entry))) × (length (packageCipher key (now (plain .entry))) ≡ length (now (plain .entry))) × (now (out .exit) ≡ over (packageCipher key (now (plain .entry))) (now (out .entry))) ⌝ }
-{
-    let n = plain.len();
-    cipher::copy(plain, out);
-    cipher::encrypt_des_cbc_zero_iv(&mut out[..n], cipher::xor_blocks(key, [255u8; 8]));
-    let start = n - 8;
-    fixed::eight(&out[start..n])
-}
-
-// Writes a registration package over the front of out, and answers its size.
-fn write_package(key: [u8; 8], plain: &[u8], out: &mut [u8]) -> usize
-    requires { ⌜ length (now plain) % 8 ≡ 0 ⌝ }
-    requires { ⌜ 8 ≤ length (now plain) ⌝ }
-    requires { ⌜ length (now plain) + 8 ≤ length (now out) ⌝ }
-    ensures { λ r. ⌜ (r ≡ length (now (plain .entry)) + 8) × (r ≡ length (packaged key (now (plain .entry)))) × (now (out .exit) ≡ over (packaged key (now (plain .entry))) (now (out .entry))) ⌝ }
-{
-    let n = plain.len();
-    let size = n + 8;
-    let mac = package_mac(key, plain, out);
-    cipher::copy(plain, out);
-    cipher::copy(&mac, &mut out[n..size]);
-    cipher::encrypt_des_cbc_zero_iv(&mut out[..size], key);
-    size
-}
-
-// The registration package of a plain package under the package key.
-pub fn generate_registration_package_des(key: &[u8], plain: &[u8], out: &mut [u8]) -> Answer
-    ensures { λ r. ⌜ Meets (packaging (now (key .entry)) (now (plain .entry)) (length (now (out .entry)))) r (now (out .entry)) (now (out .exit)) ⌝ }
-{
-    let refusal = guard_package(key.len(), plain.len(), out.len());
+    let refusal = guard_seal_des(id.len(), key.len(), payload.len());
     if refusal != 0 {
         return answer::refused(refusal);
     }
-    let length = write_package(fixed::eight(key), plain, out);
-    Answer {
-        number: 0,
-        length: length as u16,
-        transaction_number: 0,
-    }
+    let mut work = [0u8; 256];
+    let sealed = write_des(
+        code,
+        number,
+        answer::six(id),
+        answer::eight(key),
+        payload,
+        &mut work[2..],
+    );
+    let end = command::frame_with_length_prefix(code, sealed, &mut work);
+    answer::deliver(0, &work[0..end], out)
 }

@@ -1,17 +1,16 @@
 // One call for both schemes, by scheme mark: 1 is DES, 2 is AES, every other is refused (the framing half of mod.rs).
-use crate::answer;
-use crate::answer::Answer;
-use crate::command;
 use crate::des;
 use crate::v2_aes;
+use answer::Answer;
 ghost use mathlib.Core.Path.{_≡_};
 ghost use lib.ListN.{length};
-ghost use Rattle.frame.specs.Outcome.{Meets};
+ghost use Rattle.answer.specs.Outcome.{Meets};
 ghost use Rattle.frame.specs.Scheme.{sealing, opening, responding, Forecast};
 
-const DES: u8 = 1;
+// Scheme marks. They stand here once; a key's algorithm has the same numbers.
+pub const DES: u8 = 1;
 
-const AES128: u8 = 2;
+pub const AES128: u8 = 2;
 
 // Seals a command. The credentials are the session key for DES; cipher key, MAC key and Challenge 3C for AES.
 pub fn encrypt_command(
@@ -26,10 +25,17 @@ pub fn encrypt_command(
     ensures { λ r. ⌜ Meets (sealing scheme (now (credentials .entry)) code number (now (id .entry)) (now (payload .entry)) (length (now (out .entry)))) r (now (out .entry)) (now (out .exit)) ⌝ }
 {
     if scheme == DES {
-        return des::seal_des(code, number, id, credentials, payload, out);
+        return des::encrypt_secure_request_des(code, number, id, credentials, payload, out);
     }
     if scheme == AES128 {
-        return v2_aes::seal_aes(code, number, id, credentials, payload, out);
+        return v2_aes::encrypt_secure_request_v2_aes128(
+            code,
+            number,
+            id,
+            credentials,
+            payload,
+            out,
+        );
     }
     answer::refused(17)
 }
@@ -46,10 +52,10 @@ pub fn decrypt_response(
     ensures { λ r. ⌜ Meets (opening scheme (now (credentials .entry)) code (now (id .entry)) (now («data» .entry)) (length (now (out .entry)))) r (now (out .entry)) (now (out .exit)) ⌝ }
 {
     if scheme == DES {
-        return des::open_des(code, id, credentials, data, out);
+        return des::decrypt_secure_response_des(code, id, credentials, data, out);
     }
     if scheme == AES128 {
-        return v2_aes::open_aes(code, id, credentials, data, out);
+        return v2_aes::decrypt_secure_response_v2_aes128(code, id, credentials, data, out);
     }
     answer::refused(17)
 }
@@ -66,20 +72,20 @@ pub fn build_secure_response_frame(
 ) -> Answer
     ensures { λ r. ⌜ Meets (responding scheme (now (credentials .entry)) code number (now (id .entry)) (now (payload .entry)) (length (now (out .entry)))) r (now (out .entry)) (now (out .exit)) ⌝ }
 {
-    let start = command::prefix_end(out.len());
-    let sealed = encrypt_command(
-        scheme,
-        code,
-        number,
-        id,
-        credentials,
-        payload,
-        &mut out[start..],
-    );
-    if sealed.number != 0 {
-        return sealed;
+    if scheme == DES {
+        return des::build_secure_response_frame_des(code, number, id, credentials, payload, out);
     }
-    command::frame_with_length_prefix(code, sealed.length, out)
+    if scheme == AES128 {
+        return v2_aes::build_secure_response_frame_v2_aes128(
+            code,
+            number,
+            id,
+            credentials,
+            payload,
+            out,
+        );
+    }
+    answer::refused(17)
 }
 
 // The size of a sealed payload of payload_len bytes.

@@ -1,19 +1,14 @@
-// Sealed AES data: number, cipher payload, cipher MAC.
-use crate::answer;
-use crate::answer::Answer;
-use crate::deliver;
-use crate::fixed;
-use crate::number;
-use crate::secure;
+// Sealed AES data: number, cipher payload, cipher MAC (v2_aes.rs).
+use crate::command;
+use answer::Answer;
 ghost use mathlib.Core.Path.{_≡_};
 ghost use Prim.Native.Nat.{_+_, _≤_};
 ghost use lib.ListN.{length};
-ghost use Rattle.frame.specs.Outcome.{Meets, over};
-ghost use Rattle.frame.specs.Guards.{firstOf};
-ghost use Rattle.frame.specs.AesSteps.{aesSealRows, aesOpenRows, aesAccepting, aesTrying};
+ghost use Rattle.answer.specs.Outcome.{Meets, firstOf, over};
+ghost use Rattle.frame.specs.inner.AesSteps.{aesAccepting, aesTrying};
 ghost use Rattle.frame.specs.Authentication2.{auth2OpeningAes};
 ghost use Rattle.frame.specs.Scheme.{responding};
-ghost use Rattle.frame.specs.AesFrame.{cipherKey, macKey, challenge3C, aesIv, aesMac, aesSealed, aesSize, aesSealing, aesOpening};
+ghost use Rattle.frame.specs.AesFrame.{cipherKey, macKey, challenge3C, aesIv, aesMac, aesSealed, aesSize, aesSealRows, aesSealing, aesOpenRows, aesOpening};
 
 const AUTHENTICATION2_CODE: u8 = 0x43;
 
@@ -23,21 +18,21 @@ fn cipher_key(credentials: &[u8]) -> [u8; 16]
     requires { ⌜ length (now credentials) ≡ 36 ⌝ }
     ensures { λ r. ⌜ r ≡ cipherKey (now (credentials .entry)) ⌝ }
 {
-    fixed::sixteen(&credentials[0..16])
+    answer::sixteen(&credentials[0..16])
 }
 
 fn mac_key(credentials: &[u8]) -> [u8; 16]
     requires { ⌜ length (now credentials) ≡ 36 ⌝ }
     ensures { λ r. ⌜ r ≡ macKey (now (credentials .entry)) ⌝ }
 {
-    fixed::sixteen(&credentials[16..32])
+    answer::sixteen(&credentials[16..32])
 }
 
 fn challenge_3c(credentials: &[u8]) -> [u8; 4]
     requires { ⌜ length (now credentials) ≡ 36 ⌝ }
     ensures { λ r. ⌜ r ≡ challenge3C (now (credentials .entry)) ⌝ }
 {
-    fixed::four(&credentials[32..])
+    answer::four(&credentials[32..])
 }
 
 // ---- IV and MAC
@@ -73,13 +68,13 @@ fn calculate_mac_v2_aes128(iv: [u8; 16], payload: &[u8], mac_key: [u8; 16]) -> [
     b0[14] = (n / 256 % 256) as u8;
     b0[15] = (n % 256) as u8;
     let full = cipher::aes128_cmac_after_block(b0, payload, mac_key);
-    fixed::eight(&full[0..8])
+    answer::eight(&full[0..8])
 }
 
 // ---- sealing
 
 // Writes the sealed data over the front of out, and answers its size. The payload is encrypted in out, and its MAC from the next block on.
-pub(crate) fn write_aes(
+fn write_aes(
     code: u8,
     number: u16,
     id: [u8; 6],
@@ -107,9 +102,9 @@ pub(crate) fn write_aes(
     size
 }
 
-// 17, 12 and 16 of sealing, from lengths; 0 to go on.
-fn guard_seal_aes(id: usize, credentials: usize, payload: usize, room: usize) -> u8
-    ensures { λ r. ⌜ r ≡ firstOf (aesSealRows id credentials payload room) ⌝ }
+// 17 and 12 of sealing, from lengths; 0 to go on.
+fn guard_seal_aes(id: usize, credentials: usize, payload: usize) -> u8
+    ensures { λ r. ⌜ r ≡ firstOf (aesSealRows id credentials payload) ⌝ }
 {
     if id != 6 {
         return 17;
@@ -120,14 +115,11 @@ fn guard_seal_aes(id: usize, credentials: usize, payload: usize, room: usize) ->
     if 243 < payload {
         return 12;
     }
-    if room < payload + 10 {
-        return 16;
-    }
     0
 }
 
-// Seals a command or a response. The credentials are cipher key, MAC key and Challenge 3C.
-pub fn seal_aes(
+// Seals a command or a response in a work block. The credentials are cipher key, MAC key and Challenge 3C.
+pub fn encrypt_secure_request_v2_aes128(
     code: u8,
     number: u16,
     id: &[u8],
@@ -137,16 +129,20 @@ pub fn seal_aes(
 ) -> Answer
     ensures { λ r. ⌜ Meets (aesSealing (now (credentials .entry)) code number (now (id .entry)) (now (payload .entry)) (length (now (out .entry)))) r (now (out .entry)) (now (out .exit)) ⌝ }
 {
-    let refusal = guard_seal_aes(id.len(), credentials.len(), payload.len(), out.len());
+    let refusal = guard_seal_aes(id.len(), credentials.len(), payload.len());
     if refusal != 0 {
         return answer::refused(refusal);
     }
-    let length = write_aes(code, number, fixed::six(id), credentials, payload, out);
-    Answer {
-        number: 0,
-        length: length as u16,
-        transaction_number: 0,
-    }
+    let mut work = [0u8; 256];
+    let end = write_aes(
+        code,
+        number,
+        answer::six(id),
+        credentials,
+        payload,
+        &mut work,
+    );
+    answer::deliver(0, &work[0..end], out)
 }
 
 // ---- opening
@@ -159,11 +155,11 @@ fn accept_aes(number: u16, mac: [u8; 8], wanted: [u8; 8], payload: &[u8], out: &
     if !cipher::ct_eq(&mac, &wanted) {
         return answer::refused(13);
     }
-    deliver::deliver(number, payload, out)
+    answer::deliver(number, payload, out)
 }
 
 // Decrypts data in a work block, so that a refusal shows nothing of it.
-pub(crate) fn decrypt_secure_response_v2_aes128(
+fn decrypt_in_work_block(
     code: u8,
     id: [u8; 6],
     credentials: &[u8],
@@ -179,11 +175,11 @@ pub(crate) fn decrypt_secure_response_v2_aes128(
     let end = n + 2;
     let low = data[0];
     let high = data[1];
-    let number = number::transaction_number(data);
+    let number = answer::transaction_number(data);
     let iv = build_initial_vector_v2_aes128(n, code, [low, high], id, challenge_3c(credentials));
     let mut work = [0u8; 256];
     cipher::copy(&data[2..end], &mut work);
-    let mut mac = fixed::eight(&data[end..]);
+    let mut mac = answer::eight(&data[end..]);
     cipher::apply_aes128_ofb_parts(&mut work[..n], &mut mac, cipher_key(credentials), iv);
     let payload = &work[..n];
     let wanted = calculate_mac_v2_aes128(iv, payload, mac_key(credentials));
@@ -210,14 +206,20 @@ fn guard_open_aes(id: usize, credentials: usize, sealed: usize) -> u8
 }
 
 // Opens a command or a response. The credentials are those of sealing.
-pub fn open_aes(code: u8, id: &[u8], credentials: &[u8], data: &[u8], out: &mut [u8]) -> Answer
+pub fn decrypt_secure_response_v2_aes128(
+    code: u8,
+    id: &[u8],
+    credentials: &[u8],
+    data: &[u8],
+    out: &mut [u8],
+) -> Answer
     ensures { λ r. ⌜ Meets (aesOpening (now (credentials .entry)) code (now (id .entry)) (now («data» .entry)) (length (now (out .entry)))) r (now (out .entry)) (now (out .exit)) ⌝ }
 {
     let refusal = guard_open_aes(id.len(), credentials.len(), data.len());
     if refusal != 0 {
         return answer::refused(refusal);
     }
-    decrypt_secure_response_v2_aes128(code, fixed::six(id), credentials, data, out)
+    decrypt_in_work_block(code, answer::six(id), credentials, data, out)
 }
 
 // Opens an Authentication 2 response.
@@ -229,10 +231,10 @@ pub fn decrypt_authentication2_payload_v2_aes128(
 ) -> Answer
     ensures { λ r. ⌜ Meets (auth2OpeningAes (now (credentials .entry)) (now (id .entry)) (now («data» .entry)) (length (now (out .entry)))) r (now (out .entry)) (now (out .exit)) ⌝ }
 {
-    open_aes(AUTHENTICATION2_CODE, id, credentials, data, out)
+    decrypt_secure_response_v2_aes128(AUTHENTICATION2_CODE, id, credentials, data, out)
 }
 
-// Makes a response frame.
+// Makes a response frame in a work block.
 pub fn build_secure_response_frame_v2_aes128(
     code: u8,
     number: u16,
@@ -243,5 +245,19 @@ pub fn build_secure_response_frame_v2_aes128(
 ) -> Answer
     ensures { λ r. ⌜ Meets (responding 2 (now (credentials .entry)) code number (now (id .entry)) (now (payload .entry)) (length (now (out .entry)))) r (now (out .entry)) (now (out .exit)) ⌝ }
 {
-    secure::build_secure_response_frame(2, code, number, id, credentials, payload, out)
+    let refusal = guard_seal_aes(id.len(), credentials.len(), payload.len());
+    if refusal != 0 {
+        return answer::refused(refusal);
+    }
+    let mut work = [0u8; 256];
+    let sealed = write_aes(
+        code,
+        number,
+        answer::six(id),
+        credentials,
+        payload,
+        &mut work[2..],
+    );
+    let end = command::frame_with_length_prefix(code, sealed, &mut work);
+    answer::deliver(0, &work[0..end], out)
 }

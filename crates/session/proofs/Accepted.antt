@@ -11,13 +11,13 @@ use lib.ListN.{length, replicate, length-append, length-replicate}
 use Rattle.cipher.specs.Bytes.{Bytes}
 use Rattle.cipher.proofs.ByteLists.{Block, Bytes-nil, Bytes-cons, Bytes-append, Bytes-replicate}
 use Rattle.cipher.proofs.Ciphers.{des-under-block, aes-under-block}
-use Rattle.frame.specs.Guards.{firstOf}
-use Rattle.frame.specs.Outcome.{Row, choose}
-use Rattle.frame.specs.Tests.{either}
+use Rattle.answer.specs.Outcome.{firstOf}
+use Rattle.answer.specs.Outcome.{Row, choose}
+use Rattle.answer.specs.Tests.{either}
 use Rattle.session.specs.Entries.{Entry, entries, nodes, has}
 use Rattle.session.specs.ServiceCode.{bearing}
 use Rattle.session.specs.Derivation.{Derived, turnedDown, derived, byRows, needing, keyOf, keysOf, groupDes, userDes, derivedDes, chainStart, groupAes, individualKey, derivedAes, target, derivedBy, chosen, derivedFor, deriveRows, derivedBefore16, withRoom, derivation}
-use Rattle.session.specs.Derives.{missing}
+use Rattle.session.specs.inner.Derives.{missing}
 use Rattle.session.proofs.Gathers.{needing-missing, missing-first, missing-shape, keysOf-one, keys-long, keys-bytes}
 use Rattle.session.proofs.Derives.{guard-passed}
 

@@ -12,12 +12,12 @@ use Rattle.cipher.specs.Bytes.{_⊕_}
 use Rattle.cipher.specs.Fips197.{aesEncrypt, aesDecrypt}
 use Rattle.cipher.specs.Fips46.{desEncrypt, tdea2Encrypt, tdea2Decrypt}
 use Rattle.cipher.proofs.Copies.{copied}
-use Rattle.frame.specs.declared.answer.Answer.{Answer}
-use Rattle.frame.specs.Outcome.{Meets, row, accepted, choose, decide, over}
-use Rattle.frame.specs.Tests.{isnt, either, same}
-use Rattle.frame.proofs.Decides.{Refused, either-false, is-number, refused-meets, accepted-meets}
-use Rattle.frame.proofs.Overs.{copied-over}
-use Rattle.frame.proofs.Pieces.{copied-next}
+use Rattle.answer.specs.declared.answer.Answer.{Answer}
+use Rattle.answer.specs.Outcome.{Meets, row, accepted, choose, decide, over}
+use Rattle.answer.specs.Tests.{isnt, either, same}
+use Rattle.answer.proofs.Rows.{Refused, either-false, is-number, refused-meets, accepted-meets}
+use Rattle.answer.proofs.Outputs.{copied-over}
+use Rattle.answer.proofs.Pieces.{copied-next}
 use Rattle.session.specs.Challenge.{desL, desAlpha, desBeta, aesH, aesAlpha, aesBeta, contextBlock, with3C, underAlpha, underAlphaBack, underBeta, underBetaBack, blockSize, unknownScheme, wrong, wrongWith3C, giving, checking, sessionKeyInput, sessionKeys, derivingSessionKeys}
 
 -- ---- the mark

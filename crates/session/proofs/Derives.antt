@@ -13,16 +13,16 @@ use Rattle.cipher.specs.Fips46.{desEncrypt}
 use Rattle.cipher.specs.Fold.{underEach}
 use Rattle.cipher.proofs.ByteLists.{empty}
 use Rattle.cipher.proofs.Copies.{copied}
-use Rattle.frame.specs.Guards.{firstOf}
-use Rattle.frame.specs.Outcome.{Row, row, choose, over}
-use Rattle.frame.specs.Tests.{either, both}
-use Rattle.frame.proofs.Decides.{either-false, isnt-false, numbered, first-passes}
+use Rattle.answer.specs.Outcome.{firstOf}
+use Rattle.answer.specs.Outcome.{Row, row, choose, over}
+use Rattle.answer.specs.Tests.{either, both}
+use Rattle.answer.proofs.Rows.{either-false, isnt-false, numbered, first-passes}
 use Rattle.frame.proofs.DesOpens.{rest-part}
-use Rattle.frame.specs.Packed.{packed}
+use Rattle.felica_secure.specs.Packed.{packed}
 use Rattle.session.specs.Entries.{Entry, entries, nodes, has}
 use Rattle.session.specs.ServiceCode.{bearing}
 use Rattle.session.specs.Derivation.{Derived, turnedDown, derived, byRows, needing, keyOf, keysOf, groupDes, userDes, derivedDes, chainStart, groupAes, individualKey, derivedAes, target, derivedBy, chosen, derivedFor, lengthsWrong, deriveRows, derivedBefore16, withRoom, derivation}
-use Rattle.session.specs.Derives.{Derives, Refuses, Chooses, missing, Holds, desRows, chainDes, bearingDes, ReturnsDerived}
+use Rattle.session.specs.inner.Derives.{Derives, Refuses, Chooses, missing, Holds, desRows, chainDes, bearingDes, ReturnsDerived}
 use Rattle.session.specs.declared.keys.DerivedAuthKeys.{DerivedAuthKeys}
 use Rattle.session.specs.declared.keys.Gathered.{Gathered}
 use Rattle.session.proofs.Gathers.{needing-missing, missing-shape, missing-first, missing-rest, keysOf-append, keysOf-one, keys-long}

@@ -13,10 +13,10 @@ use lib.Seq.{drop-drop, take-take, take-at, take-suc, take-all, length-take-le}
 use Rattle.cipher.specs.Bytes.{Bytes}
 use Rattle.cipher.proofs.ByteLists.{Bytes-nil, Bytes-append, Bytes-take, Bytes-drop}
 use Rattle.cipher.proofs.Copies.{length-part, part-of, stored}
-use Rattle.frame.specs.Outcome.{choose}
+use Rattle.answer.specs.Outcome.{choose}
 use Rattle.session.specs.Entries.{Entry, entryOf, firstEntries, entries, place, has, keyAt}
 use Rattle.session.specs.Derivation.{Derived, turnedDown, needing, lacks, keyOf, keysOf}
-use Rattle.session.specs.Derives.{missing, Holds}
+use Rattle.session.specs.inner.Derives.{missing, Holds}
 use Rattle.session.specs.declared.keys.Gathered.{Gathered}
 use Rattle.session.proofs.Places.{length-entries}
 

@@ -9,8 +9,8 @@ use native.Mathlib.Omega.{arith}
 use borrow.Author.Tests.{eq-eqb, ne-eqb, lt-ltb, le-ltb, eqb-true, eqb-false, ltb-false}
 use lib.Dec.{eqb, ltb}
 use Rattle.cipher.proofs.Numbers.{le-or-lt}
-use Rattle.frame.specs.Outcome.{Outcome, choose}
-use Rattle.frame.specs.Tests.{both}
+use Rattle.answer.specs.Outcome.{Outcome, choose}
+use Rattle.answer.specs.Tests.{both}
 use Rattle.session.specs.History.{Event, step, setting, response, next, after, refusal, refusals, least, afterSteps}
 use Rattle.session.specs.Session.{Step, withNumber, withCount, stepped, more, counting, receiving, received, established}
 use Rattle.session.specs.declared.context.AuthenticatedContext.{AuthenticatedContext}

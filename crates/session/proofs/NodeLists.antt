@@ -8,8 +8,8 @@ use native.Mathlib.Numerals.{add-one}
 use native.Mathlib.Omega.{arith}
 use lib.ListN.{length, take, drop, getD, set, length-set}
 use lib.Seq.{drop-drop, drop-cons, drop-length, length-take-le, take-suc-set, take-set-le}
-use Rattle.frame.specs.Number.{numberOf}
-use Rattle.frame.specs.Outcome.{choose}
+use Rattle.answer.specs.Number.{numberOf}
+use Rattle.answer.specs.Outcome.{choose}
 use Rattle.session.specs.Entries.{firstNodes, nodes}
 use Rattle.session.specs.Derivation.{last, target}
 use Rattle.session.specs.ServiceCode.{keyFree, bearing}

@@ -8,8 +8,8 @@ use borrow.Author.Tests.{eq-eqb, ne-eqb, lt-ltb, le-ltb}
 use lib.Dec.{eqb}
 use lib.ListN.{length, take, drop, getD}
 use lib.Seq.{getD-drop, drop-drop, length-take-le}
-use Rattle.frame.specs.Number.{numberOf}
-use Rattle.frame.specs.Outcome.{choose}
+use Rattle.answer.specs.Number.{numberOf}
+use Rattle.answer.specs.Outcome.{choose}
 use Rattle.session.specs.Entries.{firstNodes, nodes}
 use Rattle.session.specs.Session.{firstPlace, indexIn}
 

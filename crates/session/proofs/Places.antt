@@ -9,9 +9,9 @@ use borrow.Author.Tests.{lt-ltb, le-ltb}
 use lib.Dec.{eqb, ltb}
 use lib.ListN.{length, drop, getD, length-drop}
 use lib.Seq.{drop-drop, getD-drop}
-use Rattle.frame.specs.Number.{numberOf}
-use Rattle.frame.specs.Outcome.{choose}
-use Rattle.frame.specs.Tests.{isnt, either}
+use Rattle.answer.specs.Number.{numberOf}
+use Rattle.answer.specs.Outcome.{choose}
+use Rattle.answer.specs.Tests.{isnt, either}
 use Rattle.session.specs.Entries.{Entry, entryOf, firstEntries, entries, isFor, place, has, unknownAlgorithm, twice}
 
 pub length-first : (n : ℕ) (l : List ℕ) → length (firstEntries n l) ≡ n

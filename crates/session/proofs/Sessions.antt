@@ -10,11 +10,11 @@ use borrow.Author.Tests.{eq-eqb, ne-eqb, lt-ltb, le-ltb, ltb-false}
 use lib.Dec.{eqb, lit≤}
 use lib.ListN.{length, take, drop, replicate, length-append, length-replicate}
 use lib.Seq.{take-all}
-use Rattle.frame.specs.Guards.{firstOf}
-use Rattle.frame.specs.Outcome.{Row, choose, decide, refused, over}
-use Rattle.frame.specs.Tests.{either, both}
+use Rattle.answer.specs.Outcome.{firstOf}
+use Rattle.answer.specs.Outcome.{Row, choose, decide, refused, over}
+use Rattle.answer.specs.Tests.{either, both}
 use Rattle.cipher.proofs.Numbers.{le-or-lt}
-use Rattle.frame.proofs.Decides.{numbered, decide-false, first-refuses, first-passes, either-false, is-number}
+use Rattle.answer.proofs.Rows.{numbered, decide-false, first-refuses, first-passes, either-false, is-number}
 use Rattle.frame.proofs.Schemes.{opening-whole}
 use Rattle.session.specs.Session.{credentialsSize, credentialsOf, makeRows, filled, withNumber, withCount, stepped, Steps, more, counting, opened, acceptRows, receiving, received, Receives}
 use Rattle.session.specs.declared.context.AuthenticatedContext.{AuthenticatedContext}

@@ -8,8 +8,8 @@ use lib.ListN.{length, take, drop, replicate}
 use Rattle.cipher.specs.Bytes.{_⊕_}
 use Rattle.cipher.specs.Fips197.{aesEncrypt, aesDecrypt}
 use Rattle.cipher.specs.Fips46.{desEncrypt, tdea2Encrypt, tdea2Decrypt}
-use Rattle.frame.specs.Outcome.{Outcome, accepted, row, choose, decide}
-use Rattle.frame.specs.Tests.{isnt, either, same}
+use Rattle.answer.specs.Outcome.{Outcome, accepted, row, choose, decide}
+use Rattle.answer.specs.Tests.{isnt, either, same}
 
 -- ---- DES: the derived keys are group and user key, 8 bytes each
 

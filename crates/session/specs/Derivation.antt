@@ -7,9 +7,9 @@ use lib.ListN.{length, take, replicate}
 use Rattle.cipher.specs.Fips197.{aesEncrypt}
 use Rattle.cipher.specs.Fips46.{desEncrypt}
 use Rattle.cipher.specs.Fold.{underEach}
-use Rattle.frame.specs.Guards.{firstOf}
-use Rattle.frame.specs.Outcome.{Row, row, choose}
-use Rattle.frame.specs.Tests.{isnt, either}
+use Rattle.answer.specs.Outcome.{firstOf}
+use Rattle.answer.specs.Outcome.{Row, row, choose}
+use Rattle.answer.specs.Tests.{isnt, either}
 use Rattle.session.specs.Entries.{Entry, entries, nodes, place, has, keyAt, unknownAlgorithm, twice}
 use Rattle.session.specs.ServiceCode.{bearing}
 

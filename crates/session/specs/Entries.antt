@@ -5,9 +5,9 @@ use mathlib.Core.Bool.{Bool, false}
 use mathlib.Core.List.{List, [], _∷_}
 use lib.Dec.{eqb, ltb}
 use lib.ListN.{length, take, drop, getD}
-use Rattle.frame.specs.Number.{numberOf}
-use Rattle.frame.specs.Outcome.{choose}
-use Rattle.frame.specs.Tests.{isnt, either, both}
+use Rattle.answer.specs.Number.{numberOf}
+use Rattle.answer.specs.Outcome.{choose}
+use Rattle.answer.specs.Tests.{isnt, either, both}
 
 pub record Entry : Type 0 where
   pub node : ℕ

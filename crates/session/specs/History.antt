@@ -2,8 +2,8 @@
 use Prim.Native.Nat.{ℕ, zero, suc, _+_}
 use mathlib.Core.List.{List, [], _∷_}
 use lib.Dec.{ltb}
-use Rattle.frame.specs.Outcome.{choose}
-use Rattle.frame.specs.Tests.{both}
+use Rattle.answer.specs.Outcome.{choose}
+use Rattle.answer.specs.Tests.{both}
 use Rattle.session.specs.Session.{withNumber, stepped, receiving, received}
 use Rattle.session.specs.declared.context.AuthenticatedContext.{AuthenticatedContext}
 

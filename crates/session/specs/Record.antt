@@ -5,11 +5,11 @@ use mathlib.Core.Path.{_≡_}
 use mathlib.Core.List.{List, [], _∷_, _++_}
 use lib.Dec.{eqb, ltb}
 use lib.ListN.{length, take, drop, getD}
-use Rattle.frame.specs.Number.{numberBytes, numberOf}
-use Rattle.frame.specs.Outcome.{Outcome, row, choose, decide, accepted, over}
-use Rattle.frame.specs.Packed.{packed, Returns}
+use Rattle.answer.specs.Number.{numberBytes, numberOf}
+use Rattle.answer.specs.Outcome.{Outcome, row, choose, decide, accepted, over}
+use Rattle.felica_secure.specs.Packed.{packed, Returns}
 use Rattle.frame.specs.Scheme.{sealing}
-use Rattle.frame.specs.Tests.{isnt, either, both}
+use Rattle.answer.specs.Tests.{isnt, either, both}
 use Rattle.session.specs.History.{Event, step, setting, response}
 use Rattle.session.specs.Session.{makeRows, established, withNumber, stepped, listedCount, index, credentialsOf, receiving, received}
 use Rattle.session.specs.declared.context.AuthenticatedContext.{AuthenticatedContext}

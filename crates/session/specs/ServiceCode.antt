@@ -3,8 +3,8 @@ use Prim.Native.Nat.{ℕ, _%_}
 use mathlib.Core.Bool.{Bool}
 use mathlib.Core.List.{List, [], _∷_}
 use lib.Dec.{eqb, ltb}
-use Rattle.frame.specs.Outcome.{choose}
-use Rattle.frame.specs.Tests.{both}
+use Rattle.answer.specs.Outcome.{choose}
+use Rattle.answer.specs.Tests.{both}
 
 -- a service is key-free if its low six bits are odd and lie in 9..23
 unfoldable pub keyFree : ℕ → Bool

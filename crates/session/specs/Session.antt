@@ -4,10 +4,10 @@ use mathlib.Core.Path.{_≡_}
 use mathlib.Core.List.{List, [], _∷_, _++_}
 use lib.Dec.{eqb, ltb}
 use lib.ListN.{length, take, replicate}
-use Rattle.frame.specs.Guards.{firstOf}
-use Rattle.frame.specs.Outcome.{Outcome, Row, row, choose, decide, over}
+use Rattle.answer.specs.Outcome.{firstOf}
+use Rattle.answer.specs.Outcome.{Outcome, Row, row, choose, decide, over}
 use Rattle.frame.specs.Scheme.{opening}
-use Rattle.frame.specs.Tests.{isnt, either, both}
+use Rattle.answer.specs.Tests.{isnt, either, both}
 use Rattle.session.specs.Entries.{nodes}
 use Rattle.session.specs.declared.context.AuthenticatedContext.{AuthenticatedContext}
 use Rattle.session.specs.declared.context.Made.{Made}

@@ -10,8 +10,8 @@ ghost use mathlib.Core.Path.{_≡_};
 ghost use mathlib.Core.Bool.{false};
 ghost use mathlib.Core.List.{[], _∷_};
 ghost use lib.ListN.{length};
-ghost use Rattle.frame.specs.Outcome.{Meets, decide, row, accepted};
-ghost use Rattle.frame.specs.Tests.{isnt, same};
+ghost use Rattle.answer.specs.Outcome.{Meets, decide, row, accepted};
+ghost use Rattle.answer.specs.Tests.{isnt, same};
 ghost use Rattle.session.specs.Challenge.{desL, desAlpha, desBeta, aesAlpha, aesBeta, underAlpha, underBeta, blockSize, unknownScheme, wrong, wrongWith3C, making1A, reading1A, making1B, checking1B, making2A, reading2A, making2B, checking2B, derivingSessionKeys};
 
 const DES: u8 = 1;

@@ -2,7 +2,7 @@
 ghost use mathlib.Core.Path.{_≡_};
 ghost use Rattle.cipher.specs.Bytes.{_⊕_};
 ghost use Rattle.cipher.specs.Fips46.{desEncrypt, tdea2Encrypt, tdea2Decrypt};
-ghost use Rattle.frame.specs.Tests.{same};
+ghost use Rattle.answer.specs.Tests.{same};
 
 pub struct AuthenticationContext {
     l: [u8; 8],

@@ -7,10 +7,10 @@ ghost use mathlib.Core.List.{List, [], _∷_, _++_};
 ghost use Prim.Native.Nat.{ℕ, _+_, _-_, _*_, _/_, _≤_};
 ghost use lib.Dec.{eqb, ltb};
 ghost use lib.ListN.{length, take, drop};
-ghost use Rattle.frame.specs.Guards.{firstOf};
-ghost use Rattle.frame.specs.Tests.{isnt, either};
+ghost use Rattle.answer.specs.Outcome.{firstOf};
+ghost use Rattle.answer.specs.Tests.{isnt, either};
 ghost use Rattle.session.specs.Derivation.{lacks, derived, derivedDes, individualKey, derivedAes, last, target, derivedFor, lengthsWrong, deriveRows, derivation, withRoom};
-ghost use Rattle.session.specs.Derives.{Derives, Refuses, Chooses, Holds, desRows, chainDes, bearingDes};
+ghost use Rattle.session.specs.inner.Derives.{Derives, Refuses, Chooses, Holds, desRows, chainDes, bearingDes};
 ghost use Rattle.session.specs.Entries.{entryOf, entries, nodes, isFor, place, has, unknownAlgorithm, twice};
 ghost use Rattle.session.specs.ServiceCode.{bearing};
 

@@ -2,7 +2,7 @@
 ghost use mathlib.Core.Path.{_≡_};
 ghost use Prim.Native.Nat.{_+_, _≤_};
 ghost use lib.ListN.{length, drop};
-ghost use Rattle.frame.specs.Number.{numberOf};
+ghost use Rattle.answer.specs.Number.{numberOf};
 ghost use Rattle.session.specs.ServiceCode.{keyFree};
 
 // Whether a service is authentication-free: it holds a key, and a DES chain skips it.

@@ -2,7 +2,7 @@
 ghost use mathlib.Core.Path.{_≡_};
 ghost use Rattle.cipher.specs.Bytes.{_⊕_};
 ghost use Rattle.cipher.specs.Fips197.{aesEncrypt, aesDecrypt};
-ghost use Rattle.frame.specs.Tests.{same};
+ghost use Rattle.answer.specs.Tests.{same};
 ghost use Rattle.session.specs.Challenge.{contextBlock, with3C, sessionKeyInput};
 
 const DERIVE_ENCRYPTION_KEY_INPUT: [u8; 16] =

@@ -7,7 +7,7 @@ use native.Mathlib.Omega.{arith}
 use lib.ListN.{length}
 use Rattle.cipher.specs.Bytes.{_⊕_, wordsBytes}
 use Rattle.cipher.specs.Fips197.{invRounds}
-use Rattle.cipher.specs.AesTables.{UTable, InvSTable}
+use Rattle.cipher.specs.inner.AesTables.{UTable, InvSTable}
 use Rattle.cipher.proofs.AesRounds.{unmixed-made, inv-none, inv-more}
 use borrow.Author.Needs.{needs}
 use Rattle.cipher.proofs.aes.inv_rounds.Statement.{statement}

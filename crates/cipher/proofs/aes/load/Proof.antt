@@ -2,7 +2,7 @@
 use mathlib.Core.Path.{_≡_, sym, _∙_}
 use lib.ListN.{length}
 use Rattle.cipher.specs.Bytes.{tab}
-use Rattle.cipher.proofs.Tabs.{listed}
+use Rattle.cipher.proofs.Tabulation.{listed}
 use Rattle.cipher.proofs.Words.{words-of}
 use native.Mathlib.Omega.{arith}
 use borrow.Author.Needs.{needs}

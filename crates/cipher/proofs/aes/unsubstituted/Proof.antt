@@ -1,7 +1,7 @@
 -- `unsubstituted` meets its contract, by the rule of the table. Assumes nothing.
 use mathlib.Core.Path.{refl, _∙_}
 use Prim.Native.Nat.{_/_, _%_}
-use Rattle.cipher.specs.AesTables.{diagonal}
+use Rattle.cipher.specs.inner.AesTables.{diagonal}
 use Rattle.cipher.proofs.Words.{_◂_, low}
 use native.Mathlib.Omega.{arith}
 use borrow.Author.Needs.{needs}

@@ -4,7 +4,7 @@ use native.Mathlib.Omega.{arith}
 use borrow.Author.Needs.{needs}
 use lib.Dec.{lit<}
 use lib.ListN.{length, replicate}
-use Rattle.cipher.specs.DesWith.{desWith}
+use Rattle.cipher.specs.inner.DesWith.{desWith}
 use Rattle.cipher.specs.Sp80038a.{cbcEncrypt, cbcOut}
 use Rattle.cipher.proofs.Chains.{Run, run-start, run-done}
 use Rattle.cipher.proofs.Modes.{cbc-turn}

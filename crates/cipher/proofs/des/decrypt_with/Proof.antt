@@ -6,7 +6,7 @@ use native.Mathlib.Omega.{arith}
 use borrow.Author.Needs.{needs}
 use lib.ListN.{length, length-map, length-reverse}
 use Rattle.cipher.specs.Bits.{toBits}
-use Rattle.cipher.specs.DesTables.{keyBits}
+use Rattle.cipher.specs.inner.DesTables.{keyBits}
 use Rattle.cipher.proofs.DesRounds.{Rounds, rounds-turn, rounds-done, crypt-word, key-back}
 use Rattle.cipher.proofs.des.decrypt_with.Statement.{statement}
 use Rattle.cipher.proofs.des.decrypt_with.Tie as tie

@@ -1,7 +1,7 @@
 -- `des::delta_swap` meets its contract: by its definition. Assumes nothing.
 use mathlib.Core.Path.{refl}
 use borrow.Author.Needs.{needs}
-use Rattle.cipher.specs.DesTables.{deltaSwap}
+use Rattle.cipher.specs.inner.DesTables.{deltaSwap}
 use Rattle.cipher.proofs.des.delta_swap.Statement.{statement}
 use Rattle.cipher.proofs.des.delta_swap.Tie as tie
 

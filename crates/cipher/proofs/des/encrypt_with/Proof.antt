@@ -6,7 +6,7 @@ use native.Mathlib.Omega.{arith}
 use borrow.Author.Needs.{needs}
 use lib.ListN.{length, length-map}
 use Rattle.cipher.specs.Bits.{toBits}
-use Rattle.cipher.specs.DesTables.{keyBits}
+use Rattle.cipher.specs.inner.DesTables.{keyBits}
 use Rattle.cipher.proofs.DesRounds.{Rounds, rounds-turn, rounds-done, crypt-word, key-at}
 use Rattle.cipher.proofs.des.encrypt_with.Tie as tie
 use Rattle.cipher.proofs.des.encrypt_with.Statement.{statement}

@@ -1,10 +1,11 @@
 use mathlib.Core.Path.{sym, _∙_}
 use borrow.Author.Tests.{not-true, not-false}
 use Prim.Native.Nat.{_-_}
+use native.Mathlib.Omega.{arith}
 use lib.ListN.{length}
-use Rattle.frame.proofs.Decides.{refused-meets}
+use Rattle.answer.proofs.Rows.{refused-meets}
 use Rattle.frame.proofs.Authentications.{no-block, wrong-mac, right-mac}
-use Rattle.frame.proofs.Pieces.{no-longer}
+use Rattle.answer.proofs.Pieces.{no-longer}
 use borrow.Author.Needs.{needs}
 use Rattle.frame.proofs.des.accept_authentication2.Statement.{statement}
 use Rattle.frame.proofs.des.accept_authentication2.Tie as tie
@@ -35,11 +36,7 @@ strip-des-response-mac-requires : tie.Need-strip-des-response-mac-requires
 strip-des-response-mac-requires c κs = search needs
 
 deliver-requires : tie.Need-deliver-requires
-deliver-requires c κs =
-    let s = c .before in
-    let a = s .before .before .before .before .before .before in
-    let p = a .args .plain .now in
-    no-longer (length p - 8) 256 p _ (s .strip-des-response-mac .ensures .0) (a .pre)
+deliver-requires c κs = search needs
 
 same-length : tie.Need-same-length
 same-length c = search needs
@@ -50,8 +47,10 @@ returns-3 c =
     let s = d .before .before in
     let m = s .before .before in
     let i = m .before in
-    let a = i .before .before .before .args in
-    rw (right-mac (a .plain .now) (length (a .out .now)) (i .if1 .left) (sym (m .check-packet-mac-des .ensures) ∙ not-false _ (s .before .if2 .left))) (rw (s .strip-des-response-mac .ensures .0) at (d .deliver .ensures))
+    let st = i .before .before .before in
+    let a = st .args in
+    let l = no-longer (length (a .plain .now) - 8) 65535 (a .plain .now) _ (s .strip-des-response-mac .ensures .0) (omega (arith, st .pre)) in
+    rw (right-mac (a .plain .now) (length (a .out .now)) (i .if1 .left) (sym (m .check-packet-mac-des .ensures) ∙ not-false _ (s .before .if2 .left))) (rw (s .strip-des-response-mac .ensures .0) at (d .deliver .ensures l))
 
 pub accept-authentication2-spec : {M : Type 1} → statement M
 accept-authentication2-spec =

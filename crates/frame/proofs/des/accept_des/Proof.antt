@@ -1,7 +1,7 @@
 use mathlib.Core.Path.{sym, _∙_}
 use borrow.Author.Tests.{not-true, not-false}
 use lib.ListN.{length}
-use Rattle.frame.proofs.Decides.{refused-meets}
+use Rattle.answer.proofs.Rows.{refused-meets}
 use Rattle.frame.proofs.DesOpens.{wrong-mac, right-mac}
 use borrow.Author.Needs.{needs}
 use Rattle.frame.proofs.des.accept_des.Statement.{statement}
@@ -36,7 +36,7 @@ returns-2 c =
     let i = s .before in
     let m = i .before in
     let a = m .before .before .before .before .args in
-    rw (right-mac (a .code) (length (a .out .now)) (a .id .now) (a .plain .now) (sym (m .check-packet-mac-des .ensures) ∙ not-false _ (i .if1 .left))) (rw (s .six .ensures) at (d .parse-and-deliver .ensures))
+    rw (right-mac (a .code) (length (a .out .now)) (a .id .now) (a .plain .now) (sym (m .check-packet-mac-des .ensures) ∙ not-false _ (i .if1 .left))) (rw (s .six .ensures .1 (search needs)) at (d .parse-and-deliver .ensures))
 
 pub accept-des-spec : {M : Type 1} → statement M
 accept-des-spec = tie.close (tie.spec check-packet-mac-des-requires refused-requires returns six-requires parse-and-deliver-requires same-length returns-2)

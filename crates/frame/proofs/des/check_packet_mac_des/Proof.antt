@@ -1,7 +1,7 @@
-use mathlib.Core.Path.{sym}
+use mathlib.Core.Path.{_≡_, sym}
 use Prim.Native.Nat.{_-_, _≤_}
 use native.Mathlib.Omega.{arith}
-use lib.ListN.{length, length-drop}
+use lib.ListN.{length, take, drop, length-drop}
 use lib.Seq.{length-take-le}
 use Rattle.frame.proofs.DesOpens.{rest-part, mac-checked}
 use borrow.Author.Needs.{needs}
@@ -21,9 +21,7 @@ part-eight-end : tie.Need-part-eight-end
 part-eight-end c = search needs
 
 eight-requires : tie.Need-eight-requires
-eight-requires c κs =
-    let p = c .before .before .args .plain .now in
-    rw (rest-part p (length p - 8), length-drop) (omega arith)
+eight-requires c κs = search needs
 
 slice-aggregate-decrypt-des-under-each : tie.Need-slice-aggregate-decrypt-des-under-each
 slice-aggregate-decrypt-des-under-each c =
@@ -55,7 +53,9 @@ returns c =
     let db = ms .before in
     let ei = db .before .before in
     let st = ei .before .before .before in
-    mac-checked (st .args .code) (st .args .plain .now) _ _ _ _ (ei .eight .ensures) (db .decrypt-des-under-each .ensures) (ms .mac-start .ensures) (c .ct-eq .ensures)
+    let p = st .args .plain .now in
+    let l : length (take (length p - (length p - 8)) (drop (length p - 8) p)) ≡ 8 = rw (rest-part p (length p - 8), length-drop) (omega (arith, st .pre)) in
+    mac-checked (st .args .code) (st .args .plain .now) _ _ _ _ (ei .eight .ensures .1 l) (db .decrypt-des-under-each .ensures) (ms .mac-start .ensures) (c .ct-eq .ensures)
 
 pub check-packet-mac-des-spec : {M : Type 1} → statement M
 check-packet-mac-des-spec =

@@ -7,8 +7,8 @@ use lib.Seq.{length-take-le}
 use Rattle.frame.specs.Authentication2.{auth2OpenRows, auth2Opening}
 use Rattle.frame.specs.DesFrame.{desPlain}
 use Rattle.frame.proofs.Authentications.{auth2-open-passes}
-use Rattle.frame.proofs.Decides.{guard-meets, passed-meets}
-use Rattle.frame.proofs.Overs.{front}
+use Rattle.answer.proofs.Rows.{guard-meets, passed-meets}
+use Rattle.answer.proofs.Outputs.{front}
 use borrow.Author.Needs.{needs}
 use Rattle.frame.proofs.des.decrypt_authentication2_payload.Statement.{statement}
 use Rattle.frame.proofs.des.decrypt_authentication2_payload.Tie as tie
@@ -28,7 +28,7 @@ returns c =
     guard-meets (auth2OpenRows (length (a .key .now)) (length (a .«data» .now))) _ _ _ (a .out .now) (g .guard-authentication2-open .ensures) (i .if1 .taken) (c .refused .ensures)
 
 eight-requires : tie.Need-eight-requires
-eight-requires c κs = auth2-open-passes _ _ _ (c .before .guard-authentication2-open .ensures) (c .if1 .left) .eight
+eight-requires c κs = search needs
 
 slice-aggregate-decrypt-over : tie.Need-slice-aggregate-decrypt-over
 slice-aggregate-decrypt-over c = search needs
@@ -70,7 +70,7 @@ returns-2 c =
     let d = a .«data» .now in
     let p : take (length d) (dc .decrypt-over .last .1 .1 .0) ≡ desPlain (a .key .now) d =
     front (desPlain (e .eight .result) d) (replicate 256 0) (dc .decrypt-over .last .1 .1 .0) (length d) (dc .decrypt-over .ensures .0) (dc .decrypt-over .ensures .1)
-    ∙ ap (λ (k : List ℕ). desPlain k d) (e .eight .ensures) in
+    ∙ ap (λ (k : List ℕ). desPlain k d) (e .eight .ensures .1 (auth2-open-passes _ _ _ (g .guard-authentication2-open .ensures) (i .if1 .left) .eight)) in
     passed-meets (auth2OpenRows (length (a .key .now)) (length d)) _ _ (a .out .now) _ (auth2-open-passes _ _ _ (g .guard-authentication2-open .ensures) (i .if1 .left) .rows)
     (rw p at (ac .accept-authentication2 .ensures))
 

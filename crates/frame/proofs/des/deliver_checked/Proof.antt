@@ -1,9 +1,10 @@
 use mathlib.Core.Path.{sym, _∙_}
 use borrow.Author.Tests.{not-true, not-false}
+use native.Mathlib.Omega.{arith}
 use lib.ListN.{length}
-use Rattle.frame.proofs.Decides.{refused-meets}
+use Rattle.answer.proofs.Rows.{refused-meets}
 use Rattle.frame.proofs.DesOpens.{wrong-id, right-id}
-use Rattle.frame.proofs.Sames.{same-is}
+use Rattle.answer.proofs.Equality.{same-is}
 use borrow.Author.Needs.{needs}
 use Rattle.frame.proofs.des.deliver_checked.Statement.{statement}
 use Rattle.frame.proofs.des.deliver_checked.Tie as tie
@@ -32,8 +33,9 @@ returns-2 c =
     let d = c .before .before in
     let i = d .before .before in
     let q = i .before in
-    let a = q .before .before .before .args in
-    rw (right-id (a .transaction-number) (length (a .out .now)) (a .transaction-id) (a .payload .now) (a .id) (sym (same-is _ _ _ (q .same-id .ensures)) ∙ not-false _ (i .if1 .left))) (d .deliver .ensures)
+    let st = q .before .before .before in
+    let a = st .args in
+    rw (right-id (a .transaction-number) (length (a .out .now)) (a .transaction-id) (a .payload .now) (a .id) (sym (same-is _ _ _ (q .same-id .ensures)) ∙ not-false _ (i .if1 .left))) (d .deliver .ensures (omega (arith, st .pre)))
 
 pub deliver-checked-spec : {M : Type 1} → statement M
 deliver-checked-spec =

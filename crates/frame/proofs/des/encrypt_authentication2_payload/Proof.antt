@@ -1,86 +1,66 @@
-use mathlib.Core.Path.{_≡_, refl, ap, _∙_}
-use Prim.Native.Nat.{ℕ, _≤_}
+use mathlib.Core.Path.{_≡_, refl, sym, ap, _∙_}
+use Prim.Native.Nat.{ℕ, _+_, _≤_}
 use native.Mathlib.Omega.{arith}
 use mathlib.Core.List.{List}
-use lib.ListN.{length}
-use Rattle.frame.specs.Outcome.{over}
-use Rattle.frame.specs.Padding.{pad}
+use lib.ListN.{length, replicate}
+use Rattle.answer.proofs.Outputs.{front, copied-over}
+use Rattle.frame.specs.Authentication2.{auth2Code, auth2SealRows, auth2Size, auth2Sealed}
 use Rattle.frame.specs.DesFrame.{desSeal}
-use Rattle.frame.specs.Authentication2.{auth2Code, auth2SealRows, auth2Sealed, auth2Sealing}
-use Rattle.frame.proofs.Authentications.{auth2-seal-passes}
-use Rattle.frame.proofs.Decides.{guard-meets, passed-meets, accepted-meets}
+use Rattle.frame.specs.Padding.{padCount, pad}
+use Rattle.frame.proofs.Authentications.{auth2-seal-passes, auth2-seal-steps}
 use Rattle.frame.proofs.DesSeals.{sealed-over}
-use Rattle.frame.proofs.Overs.{copied-over}
+use Rattle.frame.proofs.WorkBlocks.{guarded, delivered}
 use borrow.Author.Needs.{needs}
 use Rattle.frame.proofs.des.encrypt_authentication2_payload.Statement.{statement}
 use Rattle.frame.proofs.des.encrypt_authentication2_payload.Tie as tie
 
-guard-authentication2-seal-requires : tie.Need-guard-authentication2-seal-requires
-guard-authentication2-seal-requires c κs = search needs
-
-refused-requires : tie.Need-refused-requires
-refused-requires c κs = search needs
-
 returns : tie.Need-returns
-unfolding auth2Sealing
 returns c =
     let i = c .before in
     let g = i .before in
     let a = g .before .before .before .before .args in
-    guard-meets (auth2SealRows (length (a .key .now)) (length (a .payload .now)) (length (a .out .now))) _ _ _ (a .out .now) (g .guard-authentication2-seal .ensures) (i .if1 .taken) (c .refused .ensures)
+    rw (auth2-seal-steps (a .key .now) (a .payload .now) (length (a .out .now)))
+    (guarded (auth2SealRows (length (a .key .now)) (length (a .payload .now))) (auth2Sealed (a .key .now) (a .payload .now)) (auth2Size (length (a .payload .now))) _ (a .out .now) (a .out .now) _ (length (a .out .now)) (g .guard-authentication2-seal .ensures) (i .if1 .taken) (c .refused .ensures))
 
-copy-requires : tie.Need-copy-requires
-copy-requires c κs = search needs
-
-eight-requires : tie.Need-eight-requires
-eight-requires c κs =
-    let i = c .before .before .before .before in
-    auth2-seal-passes _ _ _ _ (i .before .guard-authentication2-seal .ensures) (i .if1 .left) .eight
+slice-aggregate-seal-front : tie.Need-slice-aggregate-seal-front
+slice-aggregate-seal-front c = search needs
 
 seal-front-requires : tie.Need-seal-front-requires
 seal-front-requires c κs =
-    let i = c .before .before .before .before .before .before in
-    let h = auth2-seal-passes _ _ _ _ (i .before .guard-authentication2-seal .ensures) (i .if1 .left) .fits in
-    omega arith
+    let i = c .before .before .before .before .before in
+    let h = auth2-seal-passes _ _ _ (i .before .guard-authentication2-seal .ensures) (i .if1 .left) .short in
+    omega (arith, h, slice-aggregate-seal-front c)
 
-cast-t16 : tie.Need-cast-t16
-cast-t16 c =
-    let sf = c .before .before in
-    let i = sf .before .before .before .before .before .before .before in
-    let h = auth2-seal-passes _ _ _ _ (i .before .guard-authentication2-seal .ensures) (i .if1 .left) .short in
-    omega (arith, sf .seal-front .ensures .0)
-
-same-length : tie.Need-same-length
-same-length c = search needs
+part-deliver-end : tie.Need-part-deliver-end
+part-deliver-end c =
+    let f = c .before .before in
+    let i = f .before .before .before .before .before .before in
+    let h = auth2-seal-passes _ _ _ (i .before .guard-authentication2-seal .ensures) (i .if1 .left) .short in
+    omega (arith, h, f .seal-front .ensures .0)
 
 returns-2 : tie.Need-returns-2
-unfolding auth2Sealing auth2Sealed
+unfolding auth2Sealed auth2Size
 returns-2 c =
-    let sf = c .before .before in
-    let ei = sf .before .before in
-    let cp = ei .before .before .before in
+    let d = c .before .before in
+    let f = d .before .before .before .before .before in
+    let e = f .before .before in
+    let cp = e .before .before in
     let i = cp .before .before in
     let g = i .before in
     let a = g .before .before .before .before .args in
     let p = a .payload .now in
     let o = a .out .now in
-    let h = auth2-seal-passes _ _ _ _ (g .guard-authentication2-seal .ensures) (i .if1 .left) in
-    let f : length p ≤ length o = let t = h .fits in omega arith in
-    let q = sealed-over auth2Code (length p) _ (ei .eight .result) p o _ _ refl (copied-over p o _ f (cp .copy .ensures)) (sf .seal-front .ensures) in
-    let b : desSeal (ei .eight .result) auth2Code (pad p) ≡ desSeal (a .key .now) auth2Code (pad p) = ap (λ (k : List ℕ). desSeal k auth2Code (pad p)) (ei .eight .ensures) in
-    passed-meets (auth2SealRows (length (a .key .now)) (length p) (length o)) _ _ o _ (h .rows)
-    (accepted-meets 0 _ _ o _ refl (q .0 ∙ ap length b) refl (q .1 ∙ ap (λ (l : List ℕ). over l o) b))
+    let h = auth2-seal-passes _ _ _ (g .guard-authentication2-seal .ensures) (i .if1 .left) in
+    let fits : length p ≤ 256 = omega (arith, h .short) in
+    let q = sealed-over auth2Code (length p) _ (e .eight .result) p (replicate 256 0) _ _ refl (copied-over p (replicate 256 0) _ fits (cp .copy .ensures)) (f .seal-front .ensures) in
+    let v = f .seal-front .last .1 .1 .0 in
+    let part = front (desSeal (e .eight .result) auth2Code (pad p)) (replicate 256 0) v (f .seal-front .result) (sym (q .0)) (q .1) in
+    let b : desSeal (e .eight .result) auth2Code (pad p) ≡ desSeal (a .key .now) auth2Code (pad p) = ap (λ (k : List ℕ). desSeal k auth2Code (pad p)) (e .eight .ensures .1 (h .eight)) in
+    rw (auth2-seal-steps (a .key .now) p (length o))
+    (delivered (auth2SealRows (length (a .key .now)) (length p)) (desSeal (a .key .now) auth2Code (pad p)) (length p + padCount (length p) + 8) _ o _ v (f .seal-front .result) (h .rows)
+    (sym (f .seal-front .ensures .0) ∙ q .0 ∙ ap length b) (omega (arith, h .short)) (length o)
+    (part ∙ b) (d .deliver .ensures))
 
 pub encrypt-authentication2-payload-spec : {M : Type 1} → statement M
 encrypt-authentication2-payload-spec =
-    tie.close
-    (tie.spec
-    guard-authentication2-seal-requires
-    refused-requires
-    returns
-    copy-requires
-    eight-requires
-    seal-front-requires
-    cast-t16
-    same-length
-    returns-2)
+    tie.close (tie.spec (λ c κs. search needs) (λ c κs. search needs) returns (λ c. search needs) (λ c κs. search needs) (λ c κs. search needs) slice-aggregate-seal-front seal-front-requires (λ c. search needs) (λ c. search needs) part-deliver-end (λ c κs. search needs) (λ c. search needs) returns-2)

@@ -1,8 +1,8 @@
 use borrow.Author.Tests.{eq-eqb, ne-eqb, lt-ltb, le-ltb}
-use Rattle.frame.specs.Outcome.{choose}
+use Rattle.answer.specs.Outcome.{choose}
 use Rattle.frame.specs.Authentication2.{auth2OpenRows}
-use Rattle.frame.specs.Guards.{firstOf}
-use Rattle.frame.specs.Tests.{isnt}
+use Rattle.answer.specs.Outcome.{firstOf}
+use Rattle.answer.specs.Tests.{isnt}
 use Rattle.frame.proofs.des.guard_authentication2_open.Statement.{statement}
 use Rattle.frame.proofs.des.guard_authentication2_open.Tie as tie
 

@@ -1,8 +1,8 @@
 use borrow.Author.Tests.{eq-eqb, ne-eqb, lt-ltb, le-ltb}
-use Rattle.frame.specs.Outcome.{choose}
-use Rattle.frame.specs.DesSteps.{openRows}
-use Rattle.frame.specs.Guards.{firstOf}
-use Rattle.frame.specs.Tests.{isnt, either}
+use Rattle.answer.specs.Outcome.{choose}
+use Rattle.answer.specs.Outcome.{firstOf}
+use Rattle.answer.specs.Tests.{isnt, either}
+use Rattle.frame.specs.DesFrame.{openRows}
 use Rattle.frame.proofs.des.guard_open_des.Statement.{statement}
 use Rattle.frame.proofs.des.guard_open_des.Tie as tie
 

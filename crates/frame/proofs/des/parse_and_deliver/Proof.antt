@@ -38,15 +38,15 @@ use denote.Triple.Spec.{Meets, tripleOf}
 use denote.Triple.Table.{entered, cited}
 use denote.Triple.Walked.{says, needs, Stays, stay-dropped, gave-slice, walkOf, goes-dropped, goes-gave-slice, Walks, ends-at, walked, walk-meets}
 use denote.Exit.{yes}
-use Rattle.frame.specs.Outcome as outcome
-use Rattle.frame.specs.Response.{Parses, parsedDelivering}
-use Rattle.frame.specs.declared.answer.Answer.{Answer}
+use Rattle.answer.specs.Outcome as outcome
+use Rattle.frame.specs.inner.Response.{Parses, parsedDelivering}
+use Rattle.answer.specs.declared.answer.Answer.{Answer}
 use Rattle.frame.specs.declared.des.SecureResponse.{SecureResponse}
 use Rattle.frame.proofs.Responses.{Delivers, parsed-meets, parsed-short}
 use Rattle.frame.proofs.Six.{Six, six, six-vals, six-tells, six-makes, six-lawful}
 use Rattle.frame.proofs.Walks.{said, slice, token, tokens}
-use Rattle.frame.proofs.answer.Answer as S
-use Rattle.frame.proofs.answer.Answer.Laws as S′
+use Rattle.answer.proofs.answer.Answer as S
+use Rattle.answer.proofs.answer.Answer.Laws as S′
 use Rattle.frame.proofs.des.SecureResponse as T
 use Rattle.frame.proofs.des.SecureResponse.Laws as T′
 use Rattle.frame.proofs.des.SecureResponse.parse as p

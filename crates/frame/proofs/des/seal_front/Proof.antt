@@ -5,7 +5,7 @@ use lib.ListN.{length, take, drop}
 use lib.Seq.{length-take-le}
 use Rattle.cipher.proofs.Copies.{length-part}
 use Rattle.frame.specs.Padding.{pad}
-use Rattle.frame.proofs.Overs.{copied-behind}
+use Rattle.answer.proofs.Outputs.{copied-behind}
 use Rattle.frame.proofs.DesSeals.{length-padded, sealed-front}
 use borrow.Author.Needs.{needs}
 use Rattle.frame.proofs.des.seal_front.Statement.{statement}

@@ -1,9 +1,9 @@
 use native.Mathlib.Omega.{arith}
 use Prim.Native.Nat.{_≤_, _<_}
 use borrow.Author.Tests.{lt-ltb, le-ltb}
-use Rattle.frame.specs.Outcome.{choose}
+use Rattle.answer.specs.Outcome.{choose}
 use Rattle.frame.specs.Trimmed.{trimCount}
-use Rattle.frame.specs.Tests.{both}
+use Rattle.answer.specs.Tests.{both}
 use Rattle.frame.proofs.des.trim_count.Statement.{statement}
 use Rattle.frame.proofs.des.trim_count.Tie as tie
 

@@ -3,7 +3,7 @@ use Prim.Native.Nat.{_-_, _≤_}
 use native.Mathlib.Omega.{arith}
 use lib.ListN.{length, take, drop, length-drop}
 use Rattle.frame.specs.DesFrame.{desSize, header}
-use Rattle.frame.proofs.Overs.{copied-behind}
+use Rattle.answer.proofs.Outputs.{copied-behind}
 use Rattle.frame.proofs.DesOpens.{rest-part}
 use Rattle.frame.proofs.DesSeals.{length-header, written-des}
 use borrow.Author.Needs.{needs}

@@ -2,7 +2,7 @@ use mathlib.Core.Path.{_≡_, refl, ap, _∙_}
 use native.Mathlib.Omega.{arith}
 use lib.ListN.{length, length-set}
 use Rattle.frame.proofs.DesSeals.{length-header, header-written}
-use Rattle.frame.proofs.Overs.{length-over}
+use Rattle.answer.proofs.Outputs.{length-over}
 use Rattle.frame.specs.DesFrame.{header}
 use borrow.Author.Needs.{needs}
 use Rattle.frame.proofs.des.write_header.Statement.{statement}

@@ -1,12 +1,12 @@
 use Rattle.frame.specs.Scheme.{opening}
-use Rattle.frame.proofs.Decides.{refused-meets}
+use Rattle.answer.proofs.Rows.{refused-meets}
 use Rattle.frame.proofs.Schemes.{mark-des, mark-aes, mark-unknown}
 use borrow.Author.Needs.{needs}
 use Rattle.frame.proofs.secure.decrypt_response.Statement.{statement}
 use Rattle.frame.proofs.secure.decrypt_response.Tie as tie
 
-open-des-requires : tie.Need-open-des-requires
-open-des-requires c κs = search needs
+decrypt-secure-response-des-requires : tie.Need-decrypt-secure-response-des-requires
+decrypt-secure-response-des-requires c κs = search needs
 
 same-length : tie.Need-same-length
 same-length c = search needs
@@ -15,10 +15,10 @@ returns : tie.Need-returns
 unfolding opening
 returns c =
     let d = c .before .before in
-    rw (mark-des _ _ _ (d .before .before .if1 .taken)) (d .open-des .ensures)
+    rw (mark-des _ _ _ (d .before .before .if1 .taken)) (d .decrypt-secure-response-des .ensures)
 
-open-aes-requires : tie.Need-open-aes-requires
-open-aes-requires c κs = search needs
+decrypt-secure-response-v2-aes128-requires : tie.Need-decrypt-secure-response-v2-aes128-requires
+decrypt-secure-response-v2-aes128-requires c κs = search needs
 
 same-length-2 : tie.Need-same-length-2
 same-length-2 c = search needs
@@ -27,7 +27,7 @@ returns-2 : tie.Need-returns-2
 unfolding opening
 returns-2 c =
     let d = c .before .before in
-    rw (mark-aes _ _ _ (d .before .before .if2 .taken)) (d .open-aes .ensures)
+    rw (mark-aes _ _ _ (d .before .before .if2 .taken)) (d .decrypt-secure-response-v2-aes128 .ensures)
 
 refused-requires : tie.Need-refused-requires
 refused-requires c κs = search needs
@@ -42,10 +42,10 @@ pub decrypt-response-spec : {M : Type 1} → statement M
 decrypt-response-spec =
     tie.close
     (tie.spec
-    open-des-requires
+    decrypt-secure-response-des-requires
     same-length
     returns
-    open-aes-requires
+    decrypt-secure-response-v2-aes128-requires
     same-length-2
     returns-2
     refused-requires

@@ -1,12 +1,12 @@
 use Rattle.frame.specs.Scheme.{sealing}
-use Rattle.frame.proofs.Decides.{refused-meets}
+use Rattle.answer.proofs.Rows.{refused-meets}
 use Rattle.frame.proofs.Schemes.{mark-des, mark-aes, mark-unknown}
 use borrow.Author.Needs.{needs}
 use Rattle.frame.proofs.secure.encrypt_command.Statement.{statement}
 use Rattle.frame.proofs.secure.encrypt_command.Tie as tie
 
-seal-des-requires : tie.Need-seal-des-requires
-seal-des-requires c κs = search needs
+encrypt-secure-request-des-requires : tie.Need-encrypt-secure-request-des-requires
+encrypt-secure-request-des-requires c κs = search needs
 
 same-length : tie.Need-same-length
 same-length c = search needs
@@ -15,10 +15,10 @@ returns : tie.Need-returns
 unfolding sealing
 returns c =
     let d = c .before .before in
-    rw (mark-des _ _ _ (d .before .before .if1 .taken)) (d .seal-des .ensures)
+    rw (mark-des _ _ _ (d .before .before .if1 .taken)) (d .encrypt-secure-request-des .ensures)
 
-seal-aes-requires : tie.Need-seal-aes-requires
-seal-aes-requires c κs = search needs
+encrypt-secure-request-v2-aes128-requires : tie.Need-encrypt-secure-request-v2-aes128-requires
+encrypt-secure-request-v2-aes128-requires c κs = search needs
 
 same-length-2 : tie.Need-same-length-2
 same-length-2 c = search needs
@@ -27,7 +27,7 @@ returns-2 : tie.Need-returns-2
 unfolding sealing
 returns-2 c =
     let d = c .before .before in
-    rw (mark-aes _ _ _ (d .before .before .if2 .taken)) (d .seal-aes .ensures)
+    rw (mark-aes _ _ _ (d .before .before .if2 .taken)) (d .encrypt-secure-request-v2-aes128 .ensures)
 
 refused-requires : tie.Need-refused-requires
 refused-requires c κs = search needs
@@ -42,10 +42,10 @@ pub encrypt-command-spec : {M : Type 1} → statement M
 encrypt-command-spec =
     tie.close
     (tie.spec
-    seal-des-requires
+    encrypt-secure-request-des-requires
     same-length
     returns
-    seal-aes-requires
+    encrypt-secure-request-v2-aes128-requires
     same-length-2
     returns-2
     refused-requires

@@ -1,7 +1,8 @@
+use native.Mathlib.Omega.{arith}
 use lib.ListN.{length}
 use borrow.Author.Tests.{not-true, not-false}
 use Rattle.frame.proofs.AesOpens.{mac-refuses, mac-passes}
-use Rattle.frame.proofs.Decides.{meets-refused}
+use Rattle.answer.proofs.Rows.{meets-refused}
 use borrow.Author.Needs.{needs}
 use Rattle.frame.proofs.v2_aes.accept_aes.Statement.{statement}
 use Rattle.frame.proofs.v2_aes.accept_aes.Tie as tie
@@ -36,8 +37,9 @@ returns-2 c =
     let d = c .before .before in
     let i = d .before .before in
     let e = i .before in
-    let a = e .before .before .before .before .before .args in
-    rw (mac-passes (a .number) (a .t2) (a .t3) (a .payload .now) (length (a .out .now)) _ (e .ct-eq .ensures) (not-false _ (i .if1 .left))) (d .deliver .ensures)
+    let st = e .before .before .before .before .before in
+    let a = st .args in
+    rw (mac-passes (a .number) (a .t2) (a .t3) (a .payload .now) (length (a .out .now)) _ (e .ct-eq .ensures) (not-false _ (i .if1 .left))) (d .deliver .ensures (omega (arith, st .pre)))
 
 pub accept-aes-spec : {M : Type 1} → statement M
 accept-aes-spec =

@@ -2,7 +2,7 @@ use mathlib.Core.Path.{refl}
 use native.Mathlib.Omega.{arith}
 use lib.Dec.{lit≤}
 use Rattle.frame.proofs.AesSeals.{with-part, iv-start, iv-built}
-use Rattle.frame.proofs.Pieces.{reaches}
+use Rattle.answer.proofs.Pieces.{reaches}
 use borrow.Author.Needs.{needs}
 use Rattle.frame.proofs.v2_aes.build_initial_vector_v2_aes128.Statement.{statement}
 use Rattle.frame.proofs.v2_aes.build_initial_vector_v2_aes128.Tie as tie

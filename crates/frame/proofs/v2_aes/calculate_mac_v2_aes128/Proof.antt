@@ -38,7 +38,7 @@ returns : tie.Need-returns
 returns c =
     let m = c .before .before .before in
     let a = m .before .before .args in
-    mac-made (a .mac-key) (a .iv) (a .payload .now) _ _ (omega arith) (m .aes128-cmac-after-block .ensures) (c .eight .ensures)
+    mac-made (a .mac-key) (a .iv) (a .payload .now) _ _ (omega arith) (m .aes128-cmac-after-block .ensures) (c .eight .ensures .1 (search needs))
 
 pub calculate-mac-v2-aes128-spec : {M : Type 1} → statement M
 calculate-mac-v2-aes128-spec =

@@ -24,7 +24,7 @@ returns : tie.Need-returns
 unfolding challenge3C
 returns c =
     let s = c .before .before .before .args .credentials .now in
-    c .four .ensures ∙ take-all (length s - 32) (drop 32 s) (omega (arith, length-drop 32 s))
+    c .four .ensures .1 (search needs) ∙ take-all (length s - 32) (drop 32 s) (omega (arith, length-drop 32 s))
 
 pub challenge-3c-spec : {M : Type 1} → statement M
 challenge-3c-spec =

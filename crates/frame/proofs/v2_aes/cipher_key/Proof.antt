@@ -17,7 +17,7 @@ sixteen-requires c κs = search needs
 
 returns : tie.Need-returns
 unfolding cipherKey
-returns c = c .sixteen .ensures
+returns c = c .sixteen .ensures .1 (search needs)
 
 pub cipher-key-spec : {M : Type 1} → statement M
 cipher-key-spec =

@@ -5,16 +5,16 @@ use Rattle.frame.proofs.v2_aes.decrypt_authentication2_payload_v2_aes12
 }
 use Rattle.frame.proofs.v2_aes.decrypt_authentication2_payload_v2_aes128.Tie as tie
 
-open-aes-requires : tie.Need-open-aes-requires
-open-aes-requires c κs = search needs
+decrypt-secure-response-v2-aes128-requires : tie.Need-decrypt-secure-response-v2-aes128-requires
+decrypt-secure-response-v2-aes128-requires c κs = search needs
 
 same-length : tie.Need-same-length
 same-length c = search needs
 
 returns : tie.Need-returns
 unfolding auth2OpeningAes
-returns c = c .before .before .open-aes .ensures
+returns c = c .before .before .decrypt-secure-response-v2-aes128 .ensures
 
 pub decrypt-authentication2-payload-v2-aes128-spec : {M : Type 1} → statement M
 decrypt-authentication2-payload-v2-aes128-spec =
-    tie.close (tie.spec open-aes-requires same-length returns)
+    tie.close (tie.spec decrypt-secure-response-v2-aes128-requires same-length returns)

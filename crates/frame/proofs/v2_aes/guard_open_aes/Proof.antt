@@ -1,8 +1,8 @@
 use borrow.Author.Tests.{eq-eqb, ne-eqb, lt-ltb, le-ltb}
-use Rattle.frame.specs.Outcome.{choose}
-use Rattle.frame.specs.AesSteps.{aesOpenRows}
-use Rattle.frame.specs.Guards.{firstOf}
-use Rattle.frame.specs.Tests.{isnt, either}
+use Rattle.answer.specs.Outcome.{choose}
+use Rattle.answer.specs.Outcome.{firstOf}
+use Rattle.answer.specs.Tests.{isnt, either}
+use Rattle.frame.specs.AesFrame.{aesOpenRows}
 use Rattle.frame.proofs.v2_aes.guard_open_aes.Statement.{statement}
 use Rattle.frame.proofs.v2_aes.guard_open_aes.Tie as tie
 

@@ -1,9 +1,7 @@
 use borrow.Author.Tests.{eq-eqb, ne-eqb, lt-ltb, le-ltb}
-use Rattle.frame.specs.Outcome.{choose}
-use Rattle.frame.specs.AesFrame.{aesSize}
-use Rattle.frame.specs.AesSteps.{aesSealRows}
-use Rattle.frame.specs.Guards.{firstOf}
-use Rattle.frame.specs.Tests.{isnt, either}
+use Rattle.answer.specs.Outcome.{choose, firstOf}
+use Rattle.answer.specs.Tests.{isnt, either}
+use Rattle.frame.specs.AesFrame.{aesSealRows}
 use borrow.Author.Needs.{needs}
 use Rattle.frame.proofs.v2_aes.guard_seal_aes.Statement.{statement}
 use Rattle.frame.proofs.v2_aes.guard_seal_aes.Tie as tie
@@ -20,16 +18,9 @@ returns-3 : tie.Need-returns-3
 unfolding aesSealRows firstOf choose isnt either
 returns-3 c = rw (eq-eqb _ _ (c .before .before .if1 .left), eq-eqb _ _ (c .before .if2 .left), lt-ltb _ _ (c .if3 .taken))
 
-add-if4 : tie.Need-add-if4
-add-if4 c = search needs
-
 returns-4 : tie.Need-returns-4
-unfolding aesSealRows firstOf choose isnt either aesSize
-returns-4 c = rw (eq-eqb _ _ (c .before .before .before .if1 .left), eq-eqb _ _ (c .before .before .if2 .left), le-ltb _ _ (c .before .if3 .left), lt-ltb _ _ (c .if4 .taken))
-
-returns-5 : tie.Need-returns-5
-unfolding aesSealRows firstOf choose isnt either aesSize
-returns-5 c = rw (eq-eqb _ _ (c .before .before .before .if1 .left), eq-eqb _ _ (c .before .before .if2 .left), le-ltb _ _ (c .before .if3 .left), le-ltb _ _ (c .if4 .left))
+unfolding aesSealRows firstOf choose isnt either
+returns-4 c = rw (eq-eqb _ _ (c .before .before .if1 .left), eq-eqb _ _ (c .before .if2 .left), le-ltb _ _ (c .if3 .left))
 
 pub guard-seal-aes-spec : {M : Type 1} → statement M
-guard-seal-aes-spec = tie.close (tie.spec returns returns-2 returns-3 add-if4 returns-4 returns-5)
+guard-seal-aes-spec = tie.close (tie.spec returns returns-2 returns-3 returns-4)

@@ -17,7 +17,7 @@ sixteen-requires c κs = search needs
 
 returns : tie.Need-returns
 unfolding macKey
-returns c = c .sixteen .ensures
+returns c = c .sixteen .ensures .1 (search needs)
 
 pub mac-key-spec : {M : Type 1} → statement M
 mac-key-spec =

@@ -4,7 +4,7 @@ use Prim.Native.Nat.{_+_, _-_, _≤_}
 use lib.ListN.{length}
 use Rattle.frame.specs.AesFrame.{aesSize}
 use Rattle.frame.proofs.AesSeals.{with-part, sealed-written}
-use Rattle.frame.proofs.Pieces.{reaches}
+use Rattle.answer.proofs.Pieces.{reaches}
 use borrow.Author.Needs.{needs}
 use Rattle.frame.proofs.v2_aes.write_aes.Statement.{statement}
 use Rattle.frame.proofs.v2_aes.write_aes.Tie as tie

@@ -1,5 +1,5 @@
 use mathlib.Core.Path.{refl, ap₂, _∙_}
-use Rattle.frame.specs.Tests.{same}
+use Rattle.answer.specs.Tests.{same}
 use Rattle.session.proofs.Challenges.{size-des, size-aes, des-lengths, aes-lengths, with-3c, des-beta, aes-beta}
 use borrow.Author.Needs.{needs}
 use Rattle.session.proofs.challenge.is_challenge1b.Statement.{statement}

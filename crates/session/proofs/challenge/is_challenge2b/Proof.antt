@@ -1,5 +1,5 @@
 use mathlib.Core.Path.{refl, ap₂, _∙_}
-use Rattle.frame.specs.Tests.{same}
+use Rattle.answer.specs.Tests.{same}
 use Rattle.session.proofs.Challenges.{size-des, size-aes, des-lengths, aes-lengths, des-alpha, aes-alpha}
 use borrow.Author.Needs.{needs}
 use Rattle.session.proofs.challenge.is_challenge2b.Statement.{statement}

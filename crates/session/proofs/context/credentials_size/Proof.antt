@@ -1,5 +1,5 @@
 use borrow.Author.Tests.{eq-eqb, ne-eqb}
-use Rattle.frame.specs.Outcome.{choose}
+use Rattle.answer.specs.Outcome.{choose}
 use Rattle.session.specs.Session.{credentialsSize}
 use Rattle.session.proofs.context.credentials_size.Statement.{statement}
 use Rattle.session.proofs.context.credentials_size.Tie as tie

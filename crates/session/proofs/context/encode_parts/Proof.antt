@@ -1,9 +1,9 @@
 use mathlib.Core.Path.{refl, ap, _∙_}
 use native.Mathlib.Omega.{arith}
 use Rattle.frame.proofs.AesSeals.{with-part}
-use Rattle.frame.proofs.Pieces.{reaches}
+use Rattle.answer.proofs.Pieces.{reaches}
 use Rattle.session.specs.Record.{decode}
-use Rattle.session.proofs.Records.{decode-encode, parts-copied}
+use Rattle.session.proofs.Encoding.{decode-encode, parts-copied}
 use borrow.Author.Needs.{needs}
 use Rattle.session.proofs.context.encode_parts.Statement.{statement}
 use Rattle.session.proofs.context.encode_parts.Tie as tie

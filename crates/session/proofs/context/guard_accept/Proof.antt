@@ -1,7 +1,7 @@
 use borrow.Author.Tests.{lt-ltb, le-ltb}
-use Rattle.frame.specs.Guards.{firstOf}
-use Rattle.frame.specs.Outcome.{choose}
-use Rattle.frame.specs.Tests.{isnt}
+use Rattle.answer.specs.Outcome.{firstOf}
+use Rattle.answer.specs.Outcome.{choose}
+use Rattle.answer.specs.Tests.{isnt}
 use Rattle.session.specs.Session.{acceptRows}
 use Rattle.session.proofs.context.guard_accept.Statement.{statement}
 use Rattle.session.proofs.context.guard_accept.Tie as tie

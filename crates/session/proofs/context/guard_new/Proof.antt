@@ -1,8 +1,8 @@
 use mathlib.Core.Path.{_≡_, sym, _∙_}
 use borrow.Author.Tests.{eq-eqb, ne-eqb, lt-ltb, le-ltb}
-use Rattle.frame.specs.Guards.{firstOf}
-use Rattle.frame.specs.Outcome.{choose}
-use Rattle.frame.specs.Tests.{isnt, either}
+use Rattle.answer.specs.Outcome.{firstOf}
+use Rattle.answer.specs.Outcome.{choose}
+use Rattle.answer.specs.Tests.{isnt, either}
 use Rattle.session.specs.Session.{credentialsSize, makeRows}
 use Rattle.session.proofs.Sessions.{mark-one-two, mark-low, mark-high}
 use borrow.Author.Needs.{needs}

@@ -1,6 +1,6 @@
 use native.Mathlib.Omega.{arith}
 use borrow.Author.Tests.{lt-ltb, le-ltb}
-use Rattle.frame.specs.Outcome.{choose}
+use Rattle.answer.specs.Outcome.{choose}
 use Rattle.session.specs.Session.{listedCount}
 use Rattle.session.proofs.context.listed.Statement.{statement}
 use Rattle.session.proofs.context.listed.Tie as tie

@@ -2,8 +2,8 @@ use mathlib.Core.Path.{_≡_, refl, sym}
 use Prim.Native.Nat.{_+_, _-_, _≤_, _<_}
 use mathlib.Core.List.{_++_}
 use lib.ListN.{length, length-append}
-use Rattle.frame.proofs.Overs.{copied-over}
-use Rattle.frame.proofs.Pieces.{copied-next}
+use Rattle.answer.proofs.Outputs.{copied-over}
+use Rattle.answer.proofs.Pieces.{copied-next}
 use Rattle.session.proofs.Derives.{short-derives, delivery-derives}
 use borrow.Author.Needs.{needs}
 use native.Mathlib.Omega.{arith}

@@ -1,8 +1,8 @@
 use mathlib.Core.Path.{sym, _∙_}
 use borrow.Author.Tests.{lt-ltb, le-ltb}
-use Rattle.frame.specs.Outcome.{choose}
-use Rattle.frame.specs.Guards.{firstOf}
-use Rattle.frame.specs.Tests.{either}
+use Rattle.answer.specs.Outcome.{choose}
+use Rattle.answer.specs.Outcome.{firstOf}
+use Rattle.answer.specs.Tests.{either}
 use Rattle.session.specs.Derivation.{deriveRows}
 use Rattle.session.proofs.Derives.{first-row, too-many}
 use borrow.Author.Needs.{needs}

@@ -1,8 +1,8 @@
 use borrow.Author.Tests.{eq-eqb, ne-eqb}
-use Rattle.frame.specs.Outcome.{choose}
-use Rattle.frame.specs.Guards.{firstOf}
-use Rattle.frame.specs.Tests.{isnt}
-use Rattle.session.specs.Derives.{desRows}
+use Rattle.answer.specs.Outcome.{choose}
+use Rattle.answer.specs.Outcome.{firstOf}
+use Rattle.answer.specs.Tests.{isnt}
+use Rattle.session.specs.inner.Derives.{desRows}
 use Rattle.session.proofs.keys.guard_des.Statement.{statement}
 use Rattle.session.proofs.keys.guard_des.Tie as tie
 

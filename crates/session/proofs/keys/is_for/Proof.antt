@@ -1,6 +1,6 @@
 use borrow.Author.Tests.{eq-eqb, ne-eqb}
 use lib.Seq.{getD-drop}
-use Rattle.frame.specs.Tests.{both}
+use Rattle.answer.specs.Tests.{both}
 use Rattle.session.specs.Entries.{entryOf, isFor}
 use borrow.Author.Needs.{needs}
 use Rattle.session.proofs.keys.is_for.Statement.{statement}

@@ -1,5 +1,5 @@
 use borrow.Author.Tests.{eq-eqb, ne-eqb}
-use Rattle.frame.specs.Tests.{isnt, either}
+use Rattle.answer.specs.Tests.{isnt, either}
 use Rattle.session.proofs.keys.is_unknown_algorithm.Statement.{statement}
 use Rattle.session.proofs.keys.is_unknown_algorithm.Tie as tie
 

@@ -1,5 +1,5 @@
 use mathlib.Core.Path.{sym, refl, _∙_}
-use Rattle.frame.specs.Outcome.{choose}
+use Rattle.answer.specs.Outcome.{choose}
 use Rattle.session.specs.Derivation.{lacks, turnedDown}
 use borrow.Author.Needs.{needs}
 use Rattle.session.proofs.keys.lacking.Statement.{statement}

@@ -1,5 +1,5 @@
 use borrow.Author.Tests.{eq-eqb, ne-eqb}
-use Rattle.frame.specs.Tests.{isnt, either}
+use Rattle.answer.specs.Tests.{isnt, either}
 use Rattle.session.specs.Derivation.{lengthsWrong}
 use Rattle.session.proofs.keys.lengths_wrong.Statement.{statement}
 use Rattle.session.proofs.keys.lengths_wrong.Tie as tie

@@ -1,5 +1,5 @@
 use borrow.Author.Tests.{lt-ltb, le-ltb}
-use Rattle.frame.specs.Tests.{either}
+use Rattle.answer.specs.Tests.{either}
 use Rattle.session.proofs.keys.too_many.Statement.{statement}
 use Rattle.session.proofs.keys.too_many.Tie as tie
 

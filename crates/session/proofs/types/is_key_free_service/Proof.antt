@@ -1,7 +1,7 @@
 use native.Mathlib.Omega.{arith}
 use Prim.Native.Nat.{_%_, _<_, _≤_}
 use borrow.Author.Tests.{eq-eqb, ne-eqb, lt-ltb, le-ltb}
-use Rattle.frame.specs.Tests.{both}
+use Rattle.answer.specs.Tests.{both}
 use Rattle.session.specs.ServiceCode.{keyFree}
 use Rattle.session.proofs.types.is_key_free_service.Statement.{statement}
 use Rattle.session.proofs.types.is_key_free_service.Tie as tie

@@ -43,13 +43,13 @@ use denote.Triple.Spec.{Meets, tripleOf}
 use denote.Triple.Table.{entered, cited}
 use denote.Triple.Walked.{says, needs, Stays, stay-dropped, gave-slice, walkOf, goes-dropped, goes-gave-slice, Walks, ends-at, walked, walk-meets}
 use denote.Exit.{yes}
-use Rattle.frame.specs.declared.answer.Answer.{Answer}
+use Rattle.answer.specs.declared.answer.Answer.{Answer}
 use Rattle.frame.specs.declared.des.SecureResponse.{SecureResponse}
 use Rattle.frame.proofs.Responses.{Delivers}
 use Rattle.frame.proofs.Six.{Six, six, six-vals, six-tells, field, field-is, six-makes, six-lawful}
 use Rattle.frame.proofs.Walks.{slice, tokens}
-use Rattle.frame.proofs.answer.Answer as S
-use Rattle.frame.proofs.answer.Answer.Laws as S′
+use Rattle.answer.proofs.answer.Answer as S
+use Rattle.answer.proofs.answer.Answer.Laws as S′
 use Rattle.frame.proofs.des.SecureResponseHeader as HT
 use Rattle.frame.proofs.des.SecureResponseHeader.Laws as HT′
 use Rattle.frame.proofs.des.SecureResponse as T

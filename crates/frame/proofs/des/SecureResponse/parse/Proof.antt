@@ -39,7 +39,7 @@ use denote.Triple.Spec.{Meets, tripleOf}
 use denote.Triple.Table.{entered, cited}
 use denote.Triple.Walked.{says, needs, Stays, stay-dropped, walkOf, goes-dropped, Walks, ends-at, walked, walk-meets}
 use denote.Exit.{yes}
-use Rattle.frame.specs.Response.{headerOf, PayloadIn}
+use Rattle.frame.specs.inner.Response.{headerOf, PayloadIn}
 use Rattle.frame.specs.declared.des.SecureResponseHeader.{SecureResponseHeader}
 use Rattle.frame.specs.declared.des.SecureResponse.{SecureResponse}
 use Rattle.frame.proofs.Walks.{said, slice, token}

@@ -4,8 +4,8 @@ use Prim.Native.Nat.{ℕ, _-_, _≤_}
 use native.Mathlib.Nat.{sub-zero}
 use native.Mathlib.Omega.{arith}
 use lib.ListN.{length, take, replicate}
-use Rattle.frame.specs.Outcome.{over}
-use Rattle.frame.proofs.Overs.{front, copied-over}
+use Rattle.answer.specs.Outcome.{over}
+use Rattle.answer.proofs.Outputs.{front, copied-over}
 use Rattle.session.specs.Session.{opened, withNumber}
 use Rattle.session.proofs.Sessions.{fits-front, accept-fits, receives-refused, receives-guarded, receives-accepted}
 use borrow.Author.Needs.{needs}

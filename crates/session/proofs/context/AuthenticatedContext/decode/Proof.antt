@@ -3,7 +3,7 @@ use native.Mathlib.Omega.{arith}
 use lib.ListN.{take, drop, replicate}
 use Rattle.cipher.proofs.Copies.{copied, length-part}
 use Rattle.session.specs.Record.{contextOf}
-use Rattle.session.proofs.Records.{decoded}
+use Rattle.session.proofs.Encoding.{decoded}
 use borrow.Author.Needs.{needs}
 use Rattle.session.proofs.context.AuthenticatedContext.decode.Statement.{statement}
 use Rattle.session.proofs.context.AuthenticatedContext.decode.Tie as tie

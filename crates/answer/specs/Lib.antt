@@ -1,0 +1,5 @@
+pub mod Delivery
+pub mod Fixed
+pub mod Number
+pub mod Outcome
+pub mod Tests
