@@ -23,7 +23,7 @@ use Rattle.frame.proofs.Schemes.{longest-is-des, longest-is-aes}
 use Rattle.agreement.specs.Agreement.{Sealable, Opened}
 use Rattle.session.specs.Challenge.{blockSize, unknownScheme, wrong, wrongWith3C, underAlpha, underBeta, making1A, reading1A, making1B, checking1B, making2A, reading2A, making2B, checking2B}
 use Rattle.agreement.proofs.Exchanges as two
-use Rattle.session.proofs.Sessions.{choose-most}
+use Rattle.session.proofs.SessionSteps.{choose-most}
 
 -- an outcome that is an acceptance, written over a buffer: its bytes are the front
 written-front : (o : Outcome) (b z w : List ℕ) (n : ℕ) → o ≡ accepted 0 b → length b ≡ n → w ≡ over (o .bytes) z → take n w ≡ b

@@ -17,7 +17,7 @@ use Rattle.answer.proofs.Refusals.{accepted-zero, refused-number}
 use Rattle.agreement.specs.Agreement.{Fits, Fixed, Inputs, made1A, read1, made2A, read2, made1B, made2B, credentials, End, reader, card, Agreement}
 use Rattle.session.specs.Challenge.{blockSize, underAlpha, underBeta, checking1B, checking2B, sessionKeys, derivingSessionKeys}
 use Rattle.session.specs.Derivation.{Derived, derivation}
-use Rattle.session.proofs.Accepted.{Given, derivation-gives}
+use Rattle.session.proofs.AcceptedDerivation.{Given, derivation-gives}
 use Rattle.agreement.proofs.Exchanges as two
 
 -- the number of an acceptance

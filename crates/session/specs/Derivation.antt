@@ -1,5 +1,6 @@
 -- Derivation of the keys of an authentication: the keys of areas and services, each in turn, encrypt a block. Assumes nothing.
 use Prim.Native.Nat.{ℕ, _+_, _-_, _*_, _%_}
+use mathlib.Core.Path.{_≡_}
 use mathlib.Core.Bool.{Bool}
 use mathlib.Core.List.{List, [], _∷_, _++_}
 use lib.Dec.{eqb, ltb}
@@ -7,11 +8,11 @@ use lib.ListN.{length, take, replicate}
 use Rattle.cipher.specs.Fips197.{aesEncrypt}
 use Rattle.cipher.specs.Fips46.{desEncrypt}
 use Rattle.cipher.specs.Fold.{underEach}
-use Rattle.answer.specs.Outcome.{firstOf}
-use Rattle.answer.specs.Outcome.{Row, row, choose}
+use Rattle.answer.specs.Outcome.{Row, row, choose, firstOf, over}
 use Rattle.answer.specs.Tests.{isnt, either}
 use Rattle.session.specs.Entries.{Entry, entries, nodes, place, has, keyAt, unknownAlgorithm, twice}
 use Rattle.session.specs.ServiceCode.{bearing}
+use Rattle.session.specs.declared.keys.DerivedAuthKeys.{DerivedAuthKeys}
 
 -- what a derivation answers: a number, the node that lacks a key where that is 4, the scheme mark that was used, and the keys
 pub record Derived : Type 0 where
@@ -141,3 +142,12 @@ withRoom room d = choose (ltb room (length (d .bytes))) (turnedDown 16 0) d
 
 unfoldable pub derivation : ℕ → List ℕ → List ℕ → List ℕ → List ℕ → ℕ → Derived
 derivation mark keys areas services individual room = withRoom room (derivedBefore16 mark keys areas services individual)
+
+-- an answer r, and an output that was `before` and is `after`, are those of d
+pub record Derives (d : Derived) (r : DerivedAuthKeys) (before after : List ℕ) : Type 0 where
+  pub number : r .answer .number ≡ d .number
+  pub node : r .node ≡ d .node
+  pub scheme : r .scheme ≡ d .scheme
+  pub length-is : r .answer .length ≡ length (d .bytes)
+  pub transaction-none : r .answer .«transaction_number» ≡ 0
+  pub output : after ≡ over (d .bytes) before

@@ -1,10 +1,8 @@
-pub mod Agreement
 pub mod Challenge
 pub mod Derivation
-pub mod Derives
 pub mod Entries
-pub mod ServiceCode
 pub mod History
 pub mod Record
+pub mod ServiceCode
 pub mod Session
-pub mod Table
+pub mod inner

@@ -4,14 +4,13 @@ use mathlib.Core.Path.{_≡_}
 use mathlib.Core.List.{List, [], _∷_, _++_}
 use lib.Dec.{eqb, ltb}
 use lib.ListN.{length, take, replicate}
-use Rattle.answer.specs.Outcome.{firstOf}
-use Rattle.answer.specs.Outcome.{Outcome, Row, row, choose, decide, over}
+use Rattle.answer.specs.declared.answer.Answer.{Answer}
+use Rattle.answer.specs.Outcome.{Outcome, Row, Meets, row, choose, decide, firstOf}
 use Rattle.frame.specs.Scheme.{opening}
 use Rattle.answer.specs.Tests.{isnt, either, both}
 use Rattle.session.specs.Entries.{nodes}
 use Rattle.session.specs.declared.context.AuthenticatedContext.{AuthenticatedContext}
 use Rattle.session.specs.declared.context.Made.{Made}
-use Rattle.session.specs.declared.context.StepAnswer.{StepAnswer}
 use Rattle.session.specs.declared.context.Received.{Received}
 
 -- ---- making a session
@@ -113,8 +112,9 @@ stepped s =
     (record { number = 0; transaction = s .«transaction_number» + 1; session = withNumber (s .«transaction_number» + 1) s })
 
 -- an answer r, and a session that was s and is t
-pub record Steps (s : AuthenticatedContext) (r : StepAnswer) (t : AuthenticatedContext) : Type 0 where
+pub record Steps (s : AuthenticatedContext) (r : Answer) (t : AuthenticatedContext) : Type 0 where
   pub number : r .number ≡ stepped s .number
+  pub length-none : r .length ≡ 0
   pub transaction : r .«transaction_number» ≡ stepped s .transaction
   pub session : t ≡ stepped s .session
 
@@ -149,8 +149,5 @@ unfoldable pub received : AuthenticatedContext → Outcome → AuthenticatedCont
 received s o = choose (eqb (o .number) 0) (withNumber (o .transaction) s) (counting (o .number) s)
 
 pub record Receives (s : AuthenticatedContext) (o : Outcome) (r : Received) (before after : List ℕ) : Type 0 where
-  pub number : r .number ≡ o .number
-  pub length-is : r .length ≡ length (o .bytes)
-  pub transaction : r .«transaction_number» ≡ o .transaction
-  pub output : after ≡ over (o .bytes) before
+  pub answer : Meets o (r .answer) before after
   pub session : r .context ≡ received s o

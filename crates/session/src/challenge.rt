@@ -1,38 +1,32 @@
 // Challenges over slices, by scheme mark: 1 is DES, 2 is AES, every other is refused. `keys` are the derived keys: group and user key for
 // DES, group and individual key for AES. Challenge 3C has 4 bytes under both marks, and is not looked at for DES.
-use crate::answer;
 use crate::des::AuthenticationContext;
-use crate::fixed;
 use crate::v2_aes;
 use crate::v2_aes::AuthenticationContextV2Aes128;
-use frame::Answer;
+use answer::Answer;
 ghost use mathlib.Core.Path.{_≡_};
 ghost use mathlib.Core.Bool.{false};
-ghost use mathlib.Core.List.{[], _∷_};
+ghost use mathlib.Core.List.{[], _∷_, _++_};
 ghost use lib.ListN.{length};
 ghost use Rattle.answer.specs.Outcome.{Meets, decide, row, accepted};
 ghost use Rattle.answer.specs.Tests.{isnt, same};
 ghost use Rattle.session.specs.Challenge.{desL, desAlpha, desBeta, aesAlpha, aesBeta, underAlpha, underBeta, blockSize, unknownScheme, wrong, wrongWith3C, making1A, reading1A, making1B, checking1B, making2A, reading2A, making2B, checking2B, derivingSessionKeys};
-
-const DES: u8 = 1;
-
-const AES128: u8 = 2;
 
 // ---- 17, from the mark and from lengths
 
 fn block_size(scheme: u8) -> usize
     ensures { λ r. ⌜ r ≡ blockSize scheme ⌝ }
 {
-    if scheme == DES { 8 } else { 16 }
+    if scheme == frame::DES { 8 } else { 16 }
 }
 
 fn is_unknown(scheme: u8) -> bool
     ensures { λ r. ⌜ r ≡ unknownScheme scheme ⌝ }
 {
-    if scheme == DES {
+    if scheme == frame::DES {
         return false;
     }
-    scheme != AES128
+    scheme != frame::AES128
 }
 
 fn is_wrong(scheme: u8, keys: usize, idm: usize, block: usize) -> bool
@@ -73,9 +67,9 @@ fn des_context(keys: &[u8], idm: &[u8]) -> AuthenticationContext
     requires { ⌜ length (now idm) ≡ 8 ⌝ }
     ensures { λ r. ⌜ (r .l ≡ desL (now (keys .entry)) (now (idm .entry))) × (r .alpha ≡ desAlpha (now (keys .entry)) (now (idm .entry))) × (r .beta ≡ desBeta (now (keys .entry)) (now (idm .entry))) ⌝ }
 {
-    let group = fixed::eight(&keys[0..8]);
-    let user = fixed::eight(&keys[8..16]);
-    AuthenticationContext::new(fixed::eight(idm), group, user)
+    let group = answer::eight(&keys[0..8]);
+    let user = answer::eight(&keys[8..16]);
+    AuthenticationContext::new(answer::eight(idm), group, user)
 }
 
 fn aes_context(keys: &[u8], idm: &[u8]) -> AuthenticationContextV2Aes128
@@ -83,9 +77,9 @@ fn aes_context(keys: &[u8], idm: &[u8]) -> AuthenticationContextV2Aes128
     requires { ⌜ length (now idm) ≡ 8 ⌝ }
     ensures { λ r. ⌜ (r .alpha ≡ aesAlpha (now (keys .entry)) (now (idm .entry))) × (r .beta ≡ aesBeta (now (keys .entry)) (now (idm .entry))) ⌝ }
 {
-    let group = fixed::sixteen(&keys[0..16]);
-    let individual = fixed::sixteen(&keys[16..32]);
-    AuthenticationContextV2Aes128::new(fixed::eight(idm), group, individual)
+    let group = answer::sixteen(&keys[0..16]);
+    let individual = answer::sixteen(&keys[16..32]);
+    AuthenticationContextV2Aes128::new(answer::eight(idm), group, individual)
 }
 
 // 13, where a block is not the one wanted.
@@ -112,14 +106,14 @@ pub fn encrypt_challenge1a(
     if is_wrong(scheme, keys.len(), idm.len(), random_1.len()) {
         return answer::refused(17);
     }
-    if scheme == DES {
+    if scheme == frame::DES {
         let context = des_context(keys, idm);
-        let block = context.encrypt_challenge1a(fixed::eight(random_1));
-        return answer::delivered(&block, out);
+        let block = context.encrypt_challenge1a(answer::eight(random_1));
+        return answer::deliver(0, &block, out);
     }
     let context = aes_context(keys, idm);
-    let block = context.encrypt_challenge1a(fixed::sixteen(random_1));
-    answer::delivered(&block, out)
+    let block = context.encrypt_challenge1a(answer::sixteen(random_1));
+    answer::deliver(0, &block, out)
 }
 
 pub fn decrypt_challenge1a(
@@ -134,14 +128,14 @@ pub fn decrypt_challenge1a(
     if is_wrong(scheme, keys.len(), idm.len(), challenge_1a.len()) {
         return answer::refused(17);
     }
-    if scheme == DES {
+    if scheme == frame::DES {
         let context = des_context(keys, idm);
-        let block = context.decrypt_challenge1a(fixed::eight(challenge_1a));
-        return answer::delivered(&block, out);
+        let block = context.decrypt_challenge1a(answer::eight(challenge_1a));
+        return answer::deliver(0, &block, out);
     }
     let context = aes_context(keys, idm);
-    let block = context.decrypt_challenge1a(fixed::sixteen(challenge_1a));
-    answer::delivered(&block, out)
+    let block = context.decrypt_challenge1a(answer::sixteen(challenge_1a));
+    answer::deliver(0, &block, out)
 }
 
 // ---- 1B: the card makes it from the random 1 that it read, the reader checks it
@@ -165,15 +159,15 @@ pub fn encrypt_challenge1b(
     ) {
         return answer::refused(17);
     }
-    if scheme == DES {
+    if scheme == frame::DES {
         let context = des_context(keys, idm);
-        let block = context.encrypt_challenge1b(fixed::eight(random_1));
-        return answer::delivered(&block, out);
+        let block = context.encrypt_challenge1b(answer::eight(random_1));
+        return answer::deliver(0, &block, out);
     }
     let context = aes_context(keys, idm);
-    let random = fixed::sixteen(random_1);
-    let block = context.encrypt_challenge1b(random, fixed::four(challenge_3c));
-    answer::delivered(&block, out)
+    let random = answer::sixteen(random_1);
+    let block = context.encrypt_challenge1b(random, answer::four(challenge_3c));
+    answer::deliver(0, &block, out)
 }
 
 fn is_challenge1b(
@@ -188,15 +182,15 @@ fn is_challenge1b(
     requires { ⌜ length (now «challenge_1b») ≡ blockSize scheme ⌝ }
     ensures { λ r. ⌜ r ≡ same (now («challenge_1b» .entry)) (underBeta scheme (now (keys .entry)) (now (idm .entry)) (now («challenge_3c» .entry)) (now («random_1» .entry))) ⌝ }
 {
-    if scheme == DES {
+    if scheme == frame::DES {
         let context = des_context(keys, idm);
-        let random = fixed::eight(random_1);
-        return context.verify_challenge1b(random, fixed::eight(challenge_1b));
+        let random = answer::eight(random_1);
+        return context.verify_challenge1b(random, answer::eight(challenge_1b));
     }
     let context = aes_context(keys, idm);
-    let random = fixed::sixteen(random_1);
-    let challenge = fixed::sixteen(challenge_1b);
-    context.verify_challenge1b(random, challenge, fixed::four(challenge_3c))
+    let random = answer::sixteen(random_1);
+    let challenge = answer::sixteen(challenge_1b);
+    context.verify_challenge1b(random, challenge, answer::four(challenge_3c))
 }
 
 pub fn verify_challenge1b(
@@ -258,15 +252,15 @@ pub fn decrypt_challenge2a(
     ) {
         return answer::refused(17);
     }
-    if scheme == DES {
+    if scheme == frame::DES {
         let context = des_context(keys, idm);
-        let block = context.decrypt_challenge2a(fixed::eight(challenge_2a));
-        return answer::delivered(&block, out);
+        let block = context.decrypt_challenge2a(answer::eight(challenge_2a));
+        return answer::deliver(0, &block, out);
     }
     let context = aes_context(keys, idm);
-    let challenge = fixed::sixteen(challenge_2a);
-    let block = context.decrypt_challenge2a(challenge, fixed::four(challenge_3c));
-    answer::delivered(&block, out)
+    let challenge = answer::sixteen(challenge_2a);
+    let block = context.decrypt_challenge2a(challenge, answer::four(challenge_3c));
+    answer::deliver(0, &block, out)
 }
 
 // ---- 2B: the reader makes it from the random 2 that it read, the card checks it
@@ -288,14 +282,14 @@ fn is_challenge2b(scheme: u8, keys: &[u8], idm: &[u8], random_2: &[u8], challeng
     requires { ⌜ length (now «challenge_2b») ≡ blockSize scheme ⌝ }
     ensures { λ r. ⌜ r ≡ same (now («challenge_2b» .entry)) (underAlpha scheme (now (keys .entry)) (now (idm .entry)) (now («random_2» .entry))) ⌝ }
 {
-    if scheme == DES {
+    if scheme == frame::DES {
         let context = des_context(keys, idm);
-        let random = fixed::eight(random_2);
-        return context.verify_challenge2b(random, fixed::eight(challenge_2b));
+        let random = answer::eight(random_2);
+        return context.verify_challenge2b(random, answer::eight(challenge_2b));
     }
     let context = aes_context(keys, idm);
-    let random = fixed::sixteen(random_2);
-    context.verify_challenge2b(random, fixed::sixteen(challenge_2b))
+    let random = answer::sixteen(random_2);
+    context.verify_challenge2b(random, answer::sixteen(challenge_2b))
 }
 
 pub fn verify_challenge2b(
@@ -324,9 +318,19 @@ pub fn derive_secure_session_keys(random_2: &[u8], out: &mut [u8]) -> Answer
     if random_2.len() != 16 {
         return answer::refused(17);
     }
-    let keys = v2_aes::derive_keys(fixed::sixteen(random_2));
+    let keys = v2_aes::derive_keys(answer::sixteen(random_2));
     let encryption_key = keys.encryption_key;
     let mac_key = keys.mac_key;
-    let both = fixed::joined(encryption_key, mac_key);
-    answer::delivered(&both, out)
+    let both = joined(encryption_key, mac_key);
+    answer::deliver(0, &both, out)
+}
+
+// Two blocks, one behind the other.
+fn joined(a: [u8; 16], b: [u8; 16]) -> [u8; 32]
+    ensures { λ r. ⌜ r ≡ a ++ b ⌝ }
+{
+    let mut both = [0u8; 32];
+    cipher::copy(&a, &mut both);
+    cipher::copy(&b, &mut both[16..32]);
+    both
 }

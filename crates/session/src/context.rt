@@ -1,6 +1,6 @@
 // The session after authentication (AuthenticatedContext of mod.rs), by value.
 use crate::types;
-use frame::Answer;
+use answer::Answer;
 ghost use mathlib.Core.Path.{_≡_};
 ghost use Prim.Native.Nat.{_+_, _*_, _≤_};
 ghost use lib.ListN.{length, take};
@@ -28,23 +28,15 @@ pub struct Made {
     pub context: AuthenticatedContext,
 }
 
-// What a step of the number answers: 9 or 0, and the new number.
-pub struct StepAnswer {
-    pub number: u8,
-    pub transaction_number: u16,
-}
-
-// The same, and the session after it.
+// What a step of the number answers: 9, or 0 and the new number; and the session after it.
 pub struct Stepped {
-    pub answer: StepAnswer,
+    pub answer: Answer,
     pub context: AuthenticatedContext,
 }
 
 // What a response step answers: the answer of an opening, and the session after it.
 pub struct Received {
-    pub number: u8,
-    pub length: u16,
-    pub transaction_number: u16,
+    pub answer: Answer,
     pub context: AuthenticatedContext,
 }
 
@@ -52,7 +44,7 @@ pub struct Received {
 fn credentials_size(scheme: u8) -> usize
     ensures { λ r. ⌜ r ≡ credentialsSize scheme ⌝ }
 {
-    if scheme == 1 {
+    if scheme == frame::DES {
         return 8;
     }
     36
@@ -128,7 +120,7 @@ fn establish(
     }
 }
 
-// 9, 15 and 16 apart, what a session refuses leaves it as it was but for its count.
+// The session after a response step that was refused with this number: 10 to 15 are counted, up to 65,535; nothing else changes.
 fn count_turned_away(context: AuthenticatedContext, number: u8) -> AuthenticatedContext
     ensures { λ r. ⌜ r ≡ counting number context ⌝ }
 {
@@ -148,7 +140,7 @@ fn count_turned_away(context: AuthenticatedContext, number: u8) -> Authenticated
 }
 
 // How many nodes a session's list has: at most 64.
-pub(crate) fn listed(node_count: u16) -> usize
+pub fn listed(node_count: u16) -> usize
     ensures { λ r. ⌜ (r ≡ listedCount «node_count») × (r ≤ 64) ⌝ }
 {
     if node_count < 64 {
@@ -261,7 +253,7 @@ fn encode_parts(
 
 // The next number, before a command is sealed: 9 where there is none. It works on the session that is lent, over the step by value; where
 // it refuses, the session is as it was.
-pub fn increment_transaction_number(context: &mut AuthenticatedContext) -> StepAnswer
+pub fn increment_transaction_number(context: &mut AuthenticatedContext) -> Answer
     ensures { λ r. ⌜ Steps (now (context .entry)) r (now (context .exit)) ⌝ }
 {
     let stepped = (*context).step();
@@ -368,19 +360,13 @@ impl AuthenticatedContext {
         let number = self.transaction_number;
         if number == 65535 {
             return Stepped {
-                answer: StepAnswer {
-                    number: 9,
-                    transaction_number: 0,
-                },
+                answer: answer::refused(9),
                 context: self,
             };
         }
         let next = number + 1;
         Stepped {
-            answer: StepAnswer {
-                number: 0,
-                transaction_number: next,
-            },
+            answer: answer::numbered(next),
             context: self.with_transaction_number(next),
         }
     }
@@ -402,21 +388,17 @@ impl AuthenticatedContext {
         }
         cipher::copy(&work[0..n], out);
         Received {
-            number: 0,
-            length: opened.length,
-            transaction_number: number,
+            answer: opened,
             context: self.with_transaction_number(number),
         }
     }
 
     // A response is refused, and counted if its number asks for it.
     fn turn_away(self, number: u8) -> Received
-        ensures { λ r. ⌜ (r .number ≡ number) × (r .length ≡ 0) × (r .«transaction_number» ≡ 0) × (r .context ≡ counting number self) ⌝ }
+        ensures { λ r. ⌜ (r .answer .number ≡ number) × (r .answer .length ≡ 0) × (r .answer .«transaction_number» ≡ 0) × (r .context ≡ counting number self) ⌝ }
     {
         Received {
-            number,
-            length: 0,
-            transaction_number: 0,
+            answer: answer::refused(number),
             context: count_turned_away(self, number),
         }
     }
@@ -476,13 +458,13 @@ impl AuthenticatedContext {
         let mut nodes = [0u8; 128];
         cipher::copy(&bytes[50..178], &mut nodes);
         AuthenticatedContext {
-            transaction_number: frame::number_of_bytes(bytes[2], bytes[3]),
+            transaction_number: answer::number_of_bytes(bytes[2], bytes[3]),
             transaction_id: id,
             scheme: bytes[1],
             credentials,
             nodes,
-            node_count: frame::number_of_bytes(bytes[6], bytes[7]),
-            turned_away: frame::number_of_bytes(bytes[4], bytes[5]),
+            node_count: answer::number_of_bytes(bytes[6], bytes[7]),
+            turned_away: answer::number_of_bytes(bytes[4], bytes[5]),
         }
     }
 }

@@ -1,6 +1,6 @@
 // Key derivation (keys.rs, in its order).
-use crate::fixed;
 use crate::types;
+use answer::Answer;
 ghost use mathlib.Core.Path.{_≡_};
 ghost use mathlib.Core.Bool.{true};
 ghost use mathlib.Core.List.{List, [], _∷_, _++_};
@@ -9,27 +9,28 @@ ghost use lib.Dec.{eqb, ltb};
 ghost use lib.ListN.{length, take, drop};
 ghost use Rattle.answer.specs.Outcome.{firstOf};
 ghost use Rattle.answer.specs.Tests.{isnt, either};
-ghost use Rattle.session.specs.Derivation.{lacks, derived, derivedDes, individualKey, derivedAes, last, target, derivedFor, lengthsWrong, deriveRows, derivation, withRoom};
-ghost use Rattle.session.specs.inner.Derives.{Derives, Refuses, Chooses, Holds, desRows, chainDes, bearingDes};
+ghost use Rattle.session.specs.Derivation.{Derives, lacks, derived, derivedDes, individualKey, derivedAes, last, target, derivedFor, lengthsWrong, deriveRows, derivation, withRoom};
+ghost use Rattle.session.specs.inner.DerivationSteps.{Refuses, Chooses, Holds, desRows, chainDes, bearingDes};
 ghost use Rattle.session.specs.Entries.{entryOf, entries, nodes, isFor, place, has, unknownAlgorithm, twice};
 ghost use Rattle.session.specs.ServiceCode.{bearing};
-
-const DES: u8 = 1;
-
-const AES: u8 = 2;
 
 const SYSTEM_SERVICE_CODE: u16 = 0xFFFF;
 
 const NODE_KEY_INIT: [u8; 16] =
     *b"\x01\x01\x00\x00\x00\x00\x00\x00\x00\x00\x00\x00\x00\x00\x00\x80";
 
-// number: 0, or that of the refusal; node: the one that lacks a key, where the number is 4; scheme: the mark that was used; length: how many
-// bytes were written. A refusal has 0 in both last fields.
+// The answer; the node that lacks a key, where the answer's number is 4; the scheme mark that was used, 0 with a refusal.
 pub struct DerivedAuthKeys {
-    pub number: u8,
+    pub answer: Answer,
     pub node: u16,
     pub scheme: u8,
-    pub length: u16,
+}
+
+// The scheme by which a derivation goes on; or the refusal of its target, with the node for 4.
+struct Choice {
+    number: u8,
+    node: u16,
+    scheme: u8,
 }
 
 // Keys gathered so far, size bytes of them; or the refusal of a node that lacks its key.
@@ -44,10 +45,9 @@ fn refused(number: u8, node: u16) -> DerivedAuthKeys
     ensures { λ r. ⌜ Refuses number node r ⌝ }
 {
     DerivedAuthKeys {
-        number,
+        answer: answer::refused(number),
         node,
         scheme: 0,
-        length: 0,
     }
 }
 
@@ -146,10 +146,10 @@ fn has_key(keys: &[u8], node: u16, algorithm: u8) -> bool
 fn is_unknown_algorithm(algorithm: u8) -> bool
     ensures { λ r. ⌜ r ≡ isnt (either (eqb algorithm 1) (eqb algorithm 2)) ⌝ }
 {
-    if algorithm == DES {
+    if algorithm == frame::DES {
         return false;
     }
-    algorithm != AES
+    algorithm != frame::AES128
 }
 
 fn any_algorithm_unknown(keys: &[u8]) -> bool
@@ -254,10 +254,9 @@ fn deliver(scheme: u8, first: &[u8], second: &[u8], out: &mut [u8]) -> DerivedAu
     cipher::copy(first, out);
     cipher::copy(second, &mut out[n..size]);
     DerivedAuthKeys {
-        number: 0,
+        answer: answer::sized(size as u16),
         node: 0,
         scheme,
-        length: size as u16,
     }
 }
 
@@ -281,7 +280,7 @@ pub fn derive_auth_keys(
     let a = parse_nodes(areas, &mut area_nodes);
     let mut service_nodes = [0u16; 32];
     let s = parse_nodes(services, &mut service_nodes);
-    derive_auth_keys_with_scheme(
+    derive_for(
         mark,
         keys,
         &area_nodes[..a],
@@ -292,7 +291,7 @@ pub fn derive_auth_keys(
 }
 
 // The same over parsed nodes, after 17, 1 and 2.
-fn derive_auth_keys_with_scheme(
+fn derive_for(
     mark: u8,
     keys: &[u8],
     areas: &[u16],
@@ -307,9 +306,9 @@ fn derive_auth_keys_with_scheme(
 {
     let choice = chain_algorithm(mark, keys, areas, services);
     if choice.number != 0 {
-        return choice;
+        return refused(choice.number, choice.node);
     }
-    if choice.scheme == DES {
+    if choice.scheme == frame::DES {
         return derive_des(keys, areas, services, individual, out);
     }
     derive_aes128(keys, areas, services, individual, out)
@@ -328,7 +327,7 @@ fn target_node(areas: &[u16], services: &[u16]) -> u16
 }
 
 // The scheme by which a derivation goes on: mark where it is not 0, else by the key of the target, AES before DES.
-fn chain_algorithm(mark: u8, keys: &[u8], areas: &[u16], services: &[u16]) -> DerivedAuthKeys
+fn chain_algorithm(mark: u8, keys: &[u8], areas: &[u16], services: &[u16]) -> Choice
     requires { ⌜ length (now areas) ≤ 32 ⌝ }
     requires { ⌜ length (now services) ≤ 32 ⌝ }
     ensures { λ r. ⌜ Chooses mark (entries (now (keys .entry))) (now (areas .entry)) (now (services .entry)) r ⌝ }
@@ -338,27 +337,34 @@ fn chain_algorithm(mark: u8, keys: &[u8], areas: &[u16], services: &[u16]) -> De
     }
     let listed = areas.len() + services.len();
     if listed == 0 {
-        return refused(3, 0);
+        return Choice {
+            number: 3,
+            node: 0,
+            scheme: 0,
+        };
     }
     let node = target_node(areas, services);
-    if has_key(keys, node, AES) {
-        return by_scheme(AES);
+    if has_key(keys, node, frame::AES128) {
+        return by_scheme(frame::AES128);
     }
-    if has_key(keys, node, DES) {
-        return by_scheme(DES);
+    if has_key(keys, node, frame::DES) {
+        return by_scheme(frame::DES);
     }
-    refused(4, node)
+    Choice {
+        number: 4,
+        node,
+        scheme: 0,
+    }
 }
 
-// The answer that a scheme was chosen.
-fn by_scheme(scheme: u8) -> DerivedAuthKeys
+// The choice of a scheme.
+fn by_scheme(scheme: u8) -> Choice
     ensures { λ r. ⌜ (r .number ≡ 0) × (r .node ≡ 0) × (r .scheme ≡ scheme) ⌝ }
 {
-    DerivedAuthKeys {
+    Choice {
         number: 0,
         node: 0,
         scheme,
-        length: 0,
     }
 }
 
@@ -413,12 +419,12 @@ fn derive_des_bearing(
     let start = gather_one(
         nothing_gathered(),
         keys,
-        DES,
+        frame::DES,
         SYSTEM_SERVICE_CODE,
         &mut work,
     );
-    let group = gather(start, keys, DES, areas, &mut work);
-    let user = gather(group, keys, DES, services, &mut work);
+    let group = gather(start, keys, frame::DES, areas, &mut work);
+    let user = gather(group, keys, frame::DES, services, &mut work);
     let refusal = user.number;
     if refusal != 0 {
         return refused(refusal, user.node);
@@ -435,10 +441,10 @@ fn chain_des(gathered: &[u8], middle: usize, out: &mut [u8]) -> DerivedAuthKeys
     requires { ⌜ middle ≤ length (now gathered) ⌝ }
     ensures { λ r. ⌜ Derives (withRoom (length (now (out .entry))) (derived 1 (chainDes (take 8 (now (gathered .entry))) (take (middle - 8) (drop 8 (now (gathered .entry)))) (drop middle (now (gathered .entry)))))) r (now (out .entry)) (now (out .exit)) ⌝ }
 {
-    let system = fixed::eight(&gathered[..8]);
+    let system = answer::eight(&gathered[..8]);
     let group = cipher::encrypt_des_under_each(system, &gathered[8..middle]);
     let user = cipher::encrypt_des_under_each(group, &gathered[middle..]);
-    deliver(DES, &group, &user, out)
+    deliver(frame::DES, &group, &user, out)
 }
 
 fn derive_aes128(
@@ -454,8 +460,8 @@ fn derive_aes128(
     ensures { λ r. ⌜ Derives (withRoom (length (now (out .entry))) (derivedAes (entries (now (keys .entry))) (now (areas .entry)) (now (services .entry)) (now (individual .entry)))) r (now (out .entry)) (now (out .exit)) ⌝ }
 {
     let mut work = [0u8; 1024];
-    let first = gather(nothing_gathered(), keys, AES, areas, &mut work);
-    let all = gather(first, keys, AES, services, &mut work);
+    let first = gather(nothing_gathered(), keys, frame::AES128, areas, &mut work);
+    let all = gather(first, keys, frame::AES128, services, &mut work);
     let refusal = all.number;
     if refusal != 0 {
         return refused(refusal, all.node);
@@ -466,7 +472,7 @@ fn derive_aes128(
     }
     let group = cipher::encrypt_aes128_under_each(NODE_KEY_INIT, &work[..end]);
     let own = individual_key(individual);
-    deliver(AES, &group, &own, out)
+    deliver(frame::AES128, &group, &own, out)
 }
 
 // An individual key; zeros where it is absent.

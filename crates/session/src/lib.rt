@@ -1,18 +1,11 @@
-// The FeliCa secure session: service codes, key derivation, challenges of the authentication, the session after it, and the C functions of
-// all crates. No public function asks anything of its caller; a refusal has a number and writes nothing.
-mod agreement;
-mod answer;
+// The FeliCa secure session: service codes, key derivation, challenges of the authentication, and the session after it. No public function asks anything of its caller; a refusal has a number and writes nothing.
 mod challenge;
 mod context;
 mod des;
-mod ffi;
-mod ffi_session;
-mod fixed;
 mod keys;
 mod types;
 mod v2_aes;
 
-pub use agreement::play;
 pub use challenge::decrypt_challenge1a;
 pub use challenge::decrypt_challenge2a;
 pub use challenge::derive_secure_session_keys;
@@ -25,10 +18,10 @@ pub use challenge::verify_challenge2b;
 pub use context::AuthenticatedContext;
 pub use context::Made;
 pub use context::Received;
-pub use context::StepAnswer;
 pub use context::Stepped;
 pub use context::advance;
 pub use context::increment_transaction_number;
+pub use context::listed;
 pub use context::set_transaction_number;
 pub use des::AuthenticationContext;
 pub use keys::DerivedAuthKeys;

@@ -24,5 +24,5 @@ pub(crate) fn node_at(list: &[u8], at: usize) -> u16
     requires { ⌜ at + 2 ≤ length (now list) ⌝ }
     ensures { λ r. ⌜ r ≡ numberOf (drop at (now (list .entry))) ⌝ }
 {
-    frame::number_of_bytes(list[at], list[at + 1])
+    answer::number_of_bytes(list[at], list[at + 1])
 }

@@ -1,7 +1,7 @@
 use mathlib.Core.Path.{sym}
 use native.Mathlib.Omega.{arith}
 use lib.Seq.{length-take-le}
-use Rattle.session.proofs.Sessions.{fits-front}
+use Rattle.session.proofs.SessionSteps.{fits-front}
 use borrow.Author.Needs.{needs}
 use Rattle.agreement.proofs.play.play.Statement.{statement}
 use Rattle.agreement.proofs.play.play.Tie as tie

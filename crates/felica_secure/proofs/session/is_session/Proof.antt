@@ -1,5 +1,5 @@
 use Rattle.session.proofs.Encoding.{other-size, other-version, by-mark}
-use Rattle.session.proofs.Sessions.{mark-low, mark-high, mark-one-two}
+use Rattle.session.proofs.SessionSteps.{mark-low, mark-high, mark-one-two}
 use mathlib.Core.Bool.{true, false}
 use borrow.Author.Needs.{needs}
 use Rattle.felica_secure.proofs.session.is_session.Statement.{statement}

@@ -44,7 +44,7 @@ use Rattle.session.specs.declared.context.AuthenticatedContext.{Authenti
 use Rattle.session.specs.declared.context.Stepped.{Stepped}
 use Rattle.session.specs.declared.context.StepAnswer.{StepAnswer}
 use Rattle.session.specs.Session.{Steps}
-use Rattle.session.proofs.Lent.{session-val, stepped-val, cell-in, cell-out}
+use Rattle.session.proofs.LentSession.{session-val, stepped-val, cell-in, cell-out}
 use Rattle.session.proofs.context.AuthenticatedContext as T
 use Rattle.session.proofs.context.AuthenticatedContext.Laws as T′
 use Rattle.session.proofs.context.Stepped as S

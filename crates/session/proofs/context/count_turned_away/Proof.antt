@@ -1,6 +1,6 @@
 use native.Mathlib.Omega.{arith}
 use Rattle.session.specs.Session.{withCount}
-use Rattle.session.proofs.Sessions.{counting-low, counting-high, counting-full, counting-more}
+use Rattle.session.proofs.SessionSteps.{counting-low, counting-high, counting-full, counting-more}
 use borrow.Author.Needs.{needs}
 use Rattle.session.proofs.context.count_turned_away.Statement.{statement}
 use Rattle.session.proofs.context.count_turned_away.Tie as tie

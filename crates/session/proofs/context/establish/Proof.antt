@@ -1,5 +1,5 @@
 use Rattle.session.specs.Session.{established}
-use Rattle.session.proofs.Sessions.{filled-is, filled-all}
+use Rattle.session.proofs.SessionSteps.{filled-is, filled-all}
 use borrow.Author.Needs.{needs}
 use Rattle.session.proofs.context.establish.Statement.{statement}
 use Rattle.session.proofs.context.establish.Tie as tie

@@ -4,7 +4,7 @@ use Rattle.answer.specs.Outcome.{firstOf}
 use Rattle.answer.specs.Outcome.{choose}
 use Rattle.answer.specs.Tests.{isnt, either}
 use Rattle.session.specs.Session.{credentialsSize, makeRows}
-use Rattle.session.proofs.Sessions.{mark-one-two, mark-low, mark-high}
+use Rattle.session.proofs.SessionSteps.{mark-one-two, mark-low, mark-high}
 use borrow.Author.Needs.{needs}
 use Rattle.session.proofs.context.guard_new.Statement.{statement}
 use Rattle.session.proofs.context.guard_new.Tie as tie

@@ -41,7 +41,7 @@ use denote.Triple.Walked.{says, Stays, stay-ref, walkOf, AllGo, goes-ref, Walks,
 use Rattle.session.specs.declared.context.AuthenticatedContext.{AuthenticatedContext}
 use Rattle.session.specs.declared.context.Stepped.{Stepped}
 use Rattle.session.specs.Session.{Steps}
-use Rattle.session.proofs.Lent.{session-val, answer-val}
+use Rattle.session.proofs.LentSession.{session-val, answer-val}
 use Rattle.session.proofs.context.AuthenticatedContext as T
 use Rattle.session.proofs.context.AuthenticatedContext.Laws as T′
 use Rattle.session.proofs.context.Stepped as S

@@ -39,7 +39,7 @@ use denote.Triple.Walked.{says, Stays, stay-ref, stay-none, walkOf, AllGo, goes-
 use denote.Exit.{yes}
 use Rattle.session.specs.declared.context.AuthenticatedContext.{AuthenticatedContext}
 use Rattle.session.specs.Session.{withNumber}
-use Rattle.session.proofs.Lent.{session-val}
+use Rattle.session.proofs.LentSession.{session-val}
 use Rattle.session.proofs.context.AuthenticatedContext as T
 use Rattle.session.proofs.context.AuthenticatedContext.Laws as T′
 use Rattle.session.proofs.context.set_transaction_number.Key.{name as #set}

@@ -1,5 +1,5 @@
 use Prim.Native.Nat.{_/_, _-_}
-use Rattle.session.proofs.Places.{Known, known-start, known-found, known-step, known-done}
+use Rattle.session.proofs.KeySearch.{Known, known-start, known-found, known-step, known-done}
 use lib.ListN.{length}
 use mathlib.Core.Path.{_≡_, refl}
 use borrow.Author.Needs.{needs}

@@ -2,7 +2,7 @@ use Prim.Native.Nat.{_/_, _-_}
 use lib.ListN.{length}
 use mathlib.Core.Path.{_≡_, refl}
 use Rattle.frame.proofs.DesOpens.{rest-part}
-use Rattle.session.proofs.Places.{Once, once-start, once-found, once-step, once-done}
+use Rattle.session.proofs.KeySearch.{Once, once-start, once-found, once-step, once-done}
 use borrow.Author.Needs.{needs}
 use native.Mathlib.Omega.{arith}
 use Rattle.session.proofs.keys.any_key_twice.Statement.{statement}

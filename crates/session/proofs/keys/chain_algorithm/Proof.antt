@@ -1,4 +1,4 @@
-use Rattle.session.proofs.Derives.{chooses-mark, chooses-none, chooses-aes, chooses-des, chooses-lacking}
+use Rattle.session.proofs.DerivationSteps.{chooses-mark, chooses-none, chooses-aes, chooses-des, chooses-lacking}
 use borrow.Author.Needs.{needs}
 use Rattle.session.proofs.keys.chain_algorithm.Statement.{statement}
 use Rattle.session.proofs.keys.chain_algorithm.Tie as tie

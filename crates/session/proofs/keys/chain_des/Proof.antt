@@ -2,7 +2,7 @@ use mathlib.Core.Path.{sym}
 use Prim.Native.Nat.{_≤_}
 use lib.ListN.{length}
 use lib.Seq.{length-take-le}
-use Rattle.session.proofs.Derives.{chain-is}
+use Rattle.session.proofs.DerivationSteps.{chain-is}
 use borrow.Author.Needs.{needs}
 use native.Mathlib.Omega.{arith}
 use Rattle.session.proofs.keys.chain_des.Statement.{statement}

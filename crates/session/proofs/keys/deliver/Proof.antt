@@ -4,7 +4,7 @@ use mathlib.Core.List.{_++_}
 use lib.ListN.{length, length-append}
 use Rattle.answer.proofs.Outputs.{copied-over}
 use Rattle.answer.proofs.Pieces.{copied-next}
-use Rattle.session.proofs.Derives.{short-derives, delivery-derives}
+use Rattle.session.proofs.DerivationSteps.{short-derives, delivery-derives}
 use borrow.Author.Needs.{needs}
 use native.Mathlib.Omega.{arith}
 use Rattle.session.proofs.keys.deliver.Statement.{statement}

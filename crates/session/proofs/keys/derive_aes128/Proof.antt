@@ -2,8 +2,8 @@ use mathlib.Core.Path.{sym}
 use mathlib.Core.List.{[]}
 use lib.Seq.{length-take-le}
 use Rattle.session.specs.Derivation.{chainStart}
-use Rattle.session.proofs.Gathers.{holds-start}
-use Rattle.session.proofs.Derives.{aes-refused, aes-none, aes-passed}
+use Rattle.session.proofs.Gathering.{holds-start}
+use Rattle.session.proofs.DerivationSteps.{aes-refused, aes-none, aes-passed}
 use borrow.Author.Needs.{needs}
 use Rattle.session.proofs.keys.derive_aes128.Statement.{statement}
 use Rattle.session.proofs.keys.derive_aes128.Tie as tie

@@ -1,6 +1,6 @@
 use mathlib.Core.Path.{sym}
 use lib.Seq.{length-take-le}
-use Rattle.session.proofs.Derives.{guard-passed, guard-refused, guard-derives}
+use Rattle.session.proofs.DerivationSteps.{guard-passed, guard-refused, guard-derives}
 use borrow.Author.Needs.{needs}
 use native.Mathlib.Omega.{arith}
 use Rattle.session.proofs.keys.derive_auth_keys.Statement.{statement}
@@ -44,9 +44,9 @@ array-share-prefix-area-nodes c =
     let e = p .parse-nodes .ensures .0 in
     omega arith
 
-slice-aggregate-derive-auth-keys-with-scheme :
-    tie.Need-slice-aggregate-derive-auth-keys-with-scheme
-slice-aggregate-derive-auth-keys-with-scheme c = sym (length-take-le _ _ (array-share-prefix-area-nodes (c .before)))
+slice-aggregate-derive-for :
+    tie.Need-slice-aggregate-derive-for
+slice-aggregate-derive-for c = sym (length-take-le _ _ (array-share-prefix-area-nodes (c .before)))
 
 array-share-prefix-service-nodes : tie.Need-array-share-prefix-service-nodes
 array-share-prefix-service-nodes c =
@@ -57,12 +57,12 @@ array-share-prefix-service-nodes c =
     let e = p .parse-nodes2 .ensures .0 in
     omega arith
 
-slice-aggregate-derive-auth-keys-with-scheme-2 :
-    tie.Need-slice-aggregate-derive-auth-keys-with-scheme-2
-slice-aggregate-derive-auth-keys-with-scheme-2 c = sym (length-take-le _ _ (array-share-prefix-service-nodes (c .before)))
+slice-aggregate-derive-for-2 :
+    tie.Need-slice-aggregate-derive-for-2
+slice-aggregate-derive-for-2 c = sym (length-take-le _ _ (array-share-prefix-service-nodes (c .before)))
 
-derive-auth-keys-with-scheme-requires : tie.Need-derive-auth-keys-with-scheme-requires
-derive-auth-keys-with-scheme-requires c κs =
+derive-for-requires : tie.Need-derive-for-requires
+derive-for-requires c κs =
     let p2 = c .before .before .before .before in
     let p1 = p2 .before .before .before in
     let i = p1 .before .before in
@@ -70,8 +70,8 @@ derive-auth-keys-with-scheme-requires c κs =
     let h = guard-passed _ _ _ _ _ _ (g .guard-derive .ensures) (i .if1 .left) in
     let e1 = p1 .parse-nodes .ensures .0 in
     let e2 = p2 .parse-nodes2 .ensures .0 in
-    let q1 = slice-aggregate-derive-auth-keys-with-scheme (c .before .before) in
-    let q2 = slice-aggregate-derive-auth-keys-with-scheme-2 (c .before) in
+    let q1 = slice-aggregate-derive-for (c .before .before) in
+    let q2 = slice-aggregate-derive-for-2 (c .before) in
     let f1 = h .few-areas in
     let f2 = h .few-services in
     (omega arith, (omega arith, h .individual-fits))
@@ -86,7 +86,7 @@ returns-2 c =
     let p1 = p2 .before .before .before in
     let i = p1 .before .before in
     let g = i .before in
-    guard-derives _ _ _ _ _ _ _ (g .guard-derive .ensures) _ _ _ _ _ (i .if1 .left) (p1 .parse-nodes .ensures .1) (p2 .parse-nodes2 .ensures .1) (d .derive-auth-keys-with-scheme .ensures)
+    guard-derives _ _ _ _ _ _ _ (g .guard-derive .ensures) _ _ _ _ _ (i .if1 .left) (p1 .parse-nodes .ensures .1) (p2 .parse-nodes2 .ensures .1) (d .derive-for .ensures)
 
 pub derive-auth-keys-spec : {M : Type 1} → statement M
 derive-auth-keys-spec =
@@ -100,9 +100,9 @@ derive-auth-keys-spec =
     slice-aggregate-parse-nodes-2
     parse-nodes-requires-2
     array-share-prefix-area-nodes
-    slice-aggregate-derive-auth-keys-with-scheme
+    slice-aggregate-derive-for
     array-share-prefix-service-nodes
-    slice-aggregate-derive-auth-keys-with-scheme-2
-    derive-auth-keys-with-scheme-requires
+    slice-aggregate-derive-for-2
+    derive-for-requires
     same-length
     returns-2)

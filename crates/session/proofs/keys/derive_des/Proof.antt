@@ -1,6 +1,6 @@
 use mathlib.Core.Path.{sym}
 use lib.Seq.{length-take-le}
-use Rattle.session.proofs.Derives.{des-refused, des-passed}
+use Rattle.session.proofs.DerivationSteps.{des-refused, des-passed}
 use borrow.Author.Needs.{needs}
 use native.Mathlib.Omega.{arith}
 use Rattle.session.proofs.keys.derive_des.Statement.{statement}

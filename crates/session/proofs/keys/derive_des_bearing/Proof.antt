@@ -1,8 +1,8 @@
 use mathlib.Core.Path.{sym}
 use mathlib.Core.List.{[]}
 use lib.Seq.{length-take-le}
-use Rattle.session.proofs.Gathers.{holds-start}
-use Rattle.session.proofs.Derives.{bearing-refused, bearing-passed, middle-within}
+use Rattle.session.proofs.Gathering.{holds-start}
+use Rattle.session.proofs.DerivationSteps.{bearing-refused, bearing-passed, middle-within}
 use borrow.Author.Needs.{needs}
 use native.Mathlib.Omega.{arith}
 use Rattle.session.proofs.keys.derive_des_bearing.Statement.{statement}

@@ -1,5 +1,5 @@
 use Prim.Native.Nat.{_/_, _-_}
-use Rattle.session.proofs.Places.{Searched, search-start, search-found, search-step, search-done}
+use Rattle.session.proofs.KeySearch.{Searched, search-start, search-found, search-step, search-done}
 use lib.ListN.{length}
 use mathlib.Core.Path.{_≡_, refl}
 use native.Mathlib.Omega.{arith}

@@ -1,7 +1,7 @@
 use Prim.Native.Nat.{_-_}
 use lib.ListN.{length}
 use Rattle.session.specs.Entries.{entries}
-use Rattle.session.proofs.Gathers.{Gathering, gathering-start, gathering-step, gathering-done}
+use Rattle.session.proofs.Gathering.{Gathering, gathering-start, gathering-step, gathering-done}
 use native.Mathlib.Omega.{arith}
 use Rattle.session.proofs.keys.gather.Statement.{statement}
 use Rattle.session.proofs.keys.gather.Tie as tie

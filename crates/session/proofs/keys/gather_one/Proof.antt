@@ -1,7 +1,7 @@
 use mathlib.Core.Path.{refl}
 use mathlib.Core.List.{[], _∷_}
-use Rattle.session.proofs.Places.{has-none, has-one}
-use Rattle.session.proofs.Gathers.{holds-stuck, holds-lacks, holds-stored}
+use Rattle.session.proofs.KeySearch.{has-none, has-one}
+use Rattle.session.proofs.Gathering.{holds-stuck, holds-lacks, holds-stored}
 use borrow.Author.Needs.{needs}
 use native.Mathlib.Omega.{arith}
 use Rattle.session.proofs.keys.gather_one.Statement.{statement}

@@ -4,7 +4,7 @@ use Rattle.answer.specs.Outcome.{choose}
 use Rattle.answer.specs.Outcome.{firstOf}
 use Rattle.answer.specs.Tests.{either}
 use Rattle.session.specs.Derivation.{deriveRows}
-use Rattle.session.proofs.Derives.{first-row, too-many}
+use Rattle.session.proofs.DerivationSteps.{first-row, too-many}
 use borrow.Author.Needs.{needs}
 use Rattle.session.proofs.keys.guard_derive.Statement.{statement}
 use Rattle.session.proofs.keys.guard_derive.Tie as tie

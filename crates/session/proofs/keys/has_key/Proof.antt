@@ -1,4 +1,4 @@
-use Rattle.session.proofs.Places.{has-is}
+use Rattle.session.proofs.KeySearch.{has-is}
 use borrow.Author.Needs.{needs}
 use Rattle.session.proofs.keys.has_key.Statement.{statement}
 use Rattle.session.proofs.keys.has_key.Tie as tie

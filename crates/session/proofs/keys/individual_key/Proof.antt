@@ -1,4 +1,4 @@
-use Rattle.session.proofs.Derives.{own-copied}
+use Rattle.session.proofs.DerivationSteps.{own-copied}
 use borrow.Author.Needs.{needs}
 use Rattle.session.proofs.keys.individual_key.Statement.{statement}
 use Rattle.session.proofs.keys.individual_key.Tie as tie

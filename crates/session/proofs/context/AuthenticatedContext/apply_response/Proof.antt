@@ -7,7 +7,7 @@ use lib.ListN.{length, take, replicate}
 use Rattle.answer.specs.Outcome.{over}
 use Rattle.answer.proofs.Outputs.{front, copied-over}
 use Rattle.session.specs.Session.{opened, withNumber}
-use Rattle.session.proofs.Sessions.{fits-front, accept-fits, receives-refused, receives-guarded, receives-accepted}
+use Rattle.session.proofs.SessionSteps.{fits-front, accept-fits, receives-refused, receives-guarded, receives-accepted}
 use borrow.Author.Needs.{needs}
 use Rattle.session.proofs.context.AuthenticatedContext.apply_response.Statement.{statement}
 use Rattle.session.proofs.context.AuthenticatedContext.apply_response.Tie as tie

@@ -1,5 +1,5 @@
 use mathlib.Core.Path.{refl, sym, _∙_}
-use Rattle.session.proofs.Sessions.{make-passes, credentials-most}
+use Rattle.session.proofs.SessionSteps.{make-passes, credentials-most}
 use borrow.Author.Needs.{needs}
 use Rattle.session.proofs.context.AuthenticatedContext.new.Statement.{statement}
 use Rattle.session.proofs.context.AuthenticatedContext.new.Tie as tie

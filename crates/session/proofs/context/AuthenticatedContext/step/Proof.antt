@@ -1,5 +1,5 @@
 use mathlib.Core.Path.{refl}
-use Rattle.session.proofs.Sessions.{steps-refused, steps-on}
+use Rattle.session.proofs.SessionSteps.{steps-refused, steps-on}
 use borrow.Author.Needs.{needs}
 use Rattle.session.proofs.context.AuthenticatedContext.step.Statement.{statement}
 use Rattle.session.proofs.context.AuthenticatedContext.step.Tie as tie

@@ -1,4 +1,4 @@
--- What the steps of a derivation answer, beside the definitions of Derivation. Assumes nothing.
+-- What the steps of a derivation answer. Assumes nothing.
 use Prim.Native.Nat.{ℕ, _≤_}
 use mathlib.Core.Path.{_≡_}
 use mathlib.Core.List.{List, [], _∷_, _++_}
@@ -6,39 +6,26 @@ use lib.Dec.{eqb}
 use lib.ListN.{length, take}
 use Rattle.cipher.specs.Fips46.{desEncrypt}
 use Rattle.cipher.specs.Fold.{underEach}
-use Rattle.answer.specs.Outcome.{Row, row, choose, over}
-use Rattle.felica_secure.specs.Packed.{packed}
+use Rattle.answer.specs.Outcome.{Row, row, choose}
 use Rattle.answer.specs.Tests.{isnt}
 use Rattle.session.specs.Entries.{Entry}
 use Rattle.session.specs.Derivation.{Derived, turnedDown, derived, DES, system, needing, keyOf, keysOf, derivedBy, derivedFor}
+use Rattle.session.specs.declared.keys.Choice.{Choice}
 use Rattle.session.specs.declared.keys.DerivedAuthKeys.{DerivedAuthKeys}
 use Rattle.session.specs.declared.keys.Gathered.{Gathered}
 
--- an answer r, and an output that was `before` and is `after`, are those of d
-pub record Derives (d : Derived) (r : DerivedAuthKeys) (before after : List ℕ) : Type 0 where
-  pub number : r .number ≡ d .number
-  pub node : r .node ≡ d .node
-  pub scheme : r .scheme ≡ d .scheme
-  pub length-is : r .length ≡ length (d .bytes)
-  pub output : after ≡ over (d .bytes) before
-
--- the same for a C caller
-pub record ReturnsDerived (d : Derived) (r : ℕ) (before after : List ℕ) : Type 0 where
-  pub answer : r ≡ packed (d .number) (d .scheme) (length (d .bytes)) (d .node)
-  pub output : after ≡ over (d .bytes) before
-
 -- r is a refusal
 pub record Refuses (number node : ℕ) (r : DerivedAuthKeys) : Type 0 where
-  pub number-is : r .number ≡ number
+  pub number-is : r .answer .number ≡ number
   pub node-is : r .node ≡ node
   pub scheme-none : r .scheme ≡ 0
-  pub length-none : r .length ≡ 0
+  pub length-none : r .answer .length ≡ 0
+  pub transaction-none : r .answer .«transaction_number» ≡ 0
 
 -- r names the scheme by which a derivation goes on, or refuses it
-pub record Chooses (mark : ℕ) (es : List Entry) (areas services : List ℕ) (r : DerivedAuthKeys) : Type 0 where
+pub record Chooses (mark : ℕ) (es : List Entry) (areas services : List ℕ) (r : Choice) : Type 0 where
   pub goes : (individual : List ℕ)
       → derivedFor mark es areas services individual ≡ choose (eqb (r .number) 0) (derivedBy (r .scheme) es areas services individual) (turnedDown (r .number) (r .node))
-  pub refuses : (r .number ≡ 0 → ⊥) → Refuses (r .number) (r .node) r
 
 -- ---- the keys of nodes, gathered
 

@@ -22,12 +22,12 @@ use Rattle.felica_secure.specs.Packed.{packed}
 use Rattle.session.specs.Entries.{Entry, entries, nodes, has}
 use Rattle.session.specs.ServiceCode.{bearing}
 use Rattle.session.specs.Derivation.{Derived, turnedDown, derived, byRows, needing, keyOf, keysOf, groupDes, userDes, derivedDes, chainStart, groupAes, individualKey, derivedAes, target, derivedBy, chosen, derivedFor, lengthsWrong, deriveRows, derivedBefore16, withRoom, derivation}
-use Rattle.session.specs.inner.Derives.{Derives, Refuses, Chooses, missing, Holds, desRows, chainDes, bearingDes, ReturnsDerived}
+use Rattle.session.specs.inner.DerivationSteps.{Derives, Refuses, Chooses, missing, Holds, desRows, chainDes, bearingDes, ReturnsDerived}
 use Rattle.session.specs.declared.keys.DerivedAuthKeys.{DerivedAuthKeys}
 use Rattle.session.specs.declared.keys.Gathered.{Gathered}
-use Rattle.session.proofs.Gathers.{needing-missing, missing-shape, missing-first, missing-rest, keysOf-append, keysOf-one, keys-long}
+use Rattle.session.proofs.Gathering.{needing-missing, missing-shape, missing-first, missing-rest, keysOf-append, keysOf-one, keys-long}
 use Rattle.session.proofs.NodeLists.{length-nodes}
-use Rattle.session.proofs.Places.{length-entries}
+use Rattle.session.proofs.KeySearch.{length-entries}
 
 -- ---- refusals and deliveries
 

@@ -17,9 +17,9 @@ use Rattle.answer.specs.Tests.{either}
 use Rattle.session.specs.Entries.{Entry, entries, nodes, has}
 use Rattle.session.specs.ServiceCode.{bearing}
 use Rattle.session.specs.Derivation.{Derived, turnedDown, derived, byRows, needing, keyOf, keysOf, groupDes, userDes, derivedDes, chainStart, groupAes, individualKey, derivedAes, target, derivedBy, chosen, derivedFor, deriveRows, derivedBefore16, withRoom, derivation}
-use Rattle.session.specs.inner.Derives.{missing}
-use Rattle.session.proofs.Gathers.{needing-missing, missing-first, missing-shape, keysOf-one, keys-long, keys-bytes}
-use Rattle.session.proofs.Derives.{guard-passed}
+use Rattle.session.specs.inner.DerivationSteps.{missing}
+use Rattle.session.proofs.Gathering.{needing-missing, missing-first, missing-shape, keysOf-one, keys-long, keys-bytes}
+use Rattle.session.proofs.DerivationSteps.{guard-passed}
 
 -- what an accepted derivation gives
 pub record Given (d : Derived) : Type 0 where

@@ -1,7 +1,7 @@
-use Rattle.session.proofs.Derives.{choice-refused, choice-des, choice-aes}
+use Rattle.session.proofs.DerivationSteps.{choice-refused, choice-des, choice-aes}
 use borrow.Author.Needs.{needs}
-use Rattle.session.proofs.keys.derive_auth_keys_with_scheme.Statement.{statement}
-use Rattle.session.proofs.keys.derive_auth_keys_with_scheme.Tie as tie
+use Rattle.session.proofs.keys.derive_for.Statement.{statement}
+use Rattle.session.proofs.keys.derive_for.Tie as tie
 
 chain-algorithm-requires : tie.Need-chain-algorithm-requires
 chain-algorithm-requires c κs = search needs
@@ -35,8 +35,8 @@ returns-3 c =
     let i = j .before .before in
     choice-aes _ _ _ _ _ _ (i .before .before .chain-algorithm .ensures) (i .if1 .left) _ _ _ _ (j .if2 .left) (d .derive-aes128 .ensures)
 
-pub derive-auth-keys-with-scheme-spec : {M : Type 1} → statement M
-derive-auth-keys-with-scheme-spec =
+pub derive-for-spec : {M : Type 1} → statement M
+derive-for-spec =
     tie.close
     (tie.spec
     chain-algorithm-requires

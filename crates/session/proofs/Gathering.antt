@@ -16,9 +16,9 @@ use Rattle.cipher.proofs.Copies.{length-part, part-of, stored}
 use Rattle.answer.specs.Outcome.{choose}
 use Rattle.session.specs.Entries.{Entry, entryOf, firstEntries, entries, place, has, keyAt}
 use Rattle.session.specs.Derivation.{Derived, turnedDown, needing, lacks, keyOf, keysOf}
-use Rattle.session.specs.inner.Derives.{missing, Holds}
+use Rattle.session.specs.inner.DerivationSteps.{missing, Holds}
 use Rattle.session.specs.declared.keys.Gathered.{Gathered}
-use Rattle.session.proofs.Places.{length-entries}
+use Rattle.session.proofs.KeySearch.{length-entries}
 
 -- ---- the key of a node
 

@@ -1,0 +1,2 @@
+-- What only contracts of functions inside the crate cite.
+pub mod DerivationSteps
