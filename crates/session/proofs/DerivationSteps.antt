@@ -18,11 +18,11 @@ use Rattle.answer.specs.Outcome.{Row, row, choose, over}
 use Rattle.answer.specs.Tests.{either, both}
 use Rattle.answer.proofs.Rows.{either-false, isnt-false, numbered, first-passes}
 use Rattle.frame.proofs.DesOpens.{rest-part}
-use Rattle.felica_secure.specs.Packed.{packed}
 use Rattle.session.specs.Entries.{Entry, entries, nodes, has}
 use Rattle.session.specs.ServiceCode.{bearing}
-use Rattle.session.specs.Derivation.{Derived, turnedDown, derived, byRows, needing, keyOf, keysOf, groupDes, userDes, derivedDes, chainStart, groupAes, individualKey, derivedAes, target, derivedBy, chosen, derivedFor, lengthsWrong, deriveRows, derivedBefore16, withRoom, derivation}
-use Rattle.session.specs.inner.DerivationSteps.{Derives, Refuses, Chooses, missing, Holds, desRows, chainDes, bearingDes, ReturnsDerived}
+use Rattle.session.specs.Derivation.{Derived, Derives, turnedDown, derived, byRows, needing, keyOf, keysOf, groupDes, userDes, derivedDes, chainStart, groupAes, individualKey, derivedAes, target, derivedBy, chosen, derivedFor, lengthsWrong, deriveRows, derivedBefore16, withRoom, derivation}
+use Rattle.session.specs.inner.DerivationSteps.{Refuses, Chooses, missing, Holds, desRows, chainDes, bearingDes}
+use Rattle.session.specs.declared.keys.Choice.{Choice}
 use Rattle.session.specs.declared.keys.DerivedAuthKeys.{DerivedAuthKeys}
 use Rattle.session.specs.declared.keys.Gathered.{Gathered}
 use Rattle.session.proofs.Gathering.{needing-missing, missing-shape, missing-first, missing-rest, keysOf-append, keysOf-one, keys-long}
@@ -34,7 +34,7 @@ use Rattle.session.proofs.KeySearch.{length-entries}
 module _ (r : DerivedAuthKeys) (room : ℕ) (out : List ℕ) where
   turned-derives : (k n : ℕ) → Refuses k n r → Derives (turnedDown k n) r out out
   unfolding turnedDown over
-  turned-derives k n h = record { number = h .number-is; node = h .node-is; scheme = h .scheme-none; length-is = h .length-none; output = refl }
+  turned-derives k n h = record { number = h .number-is; node = h .node-is; scheme = h .scheme-none; length-is = h .length-none; transaction-none = h .transaction-none; output = refl }
 
   room-turned : (k n : ℕ) → withRoom room (turnedDown k n) ≡ turnedDown k n
   unfolding withRoom turnedDown choose
@@ -49,10 +49,10 @@ module _ (scheme : ℕ) (b : List ℕ) (r : DerivedAuthKeys) (before : List ℕ)
   unfolding withRoom derived choose
   short-derives h f = rw (lt-ltb (length before) (length b) h) (turned-derives r 0 before 16 0 f)
 
-  pub delivery-derives : (after : List ℕ) → length b ≤ length before → r .number ≡ 0 → r .node ≡ 0 → r .scheme ≡ scheme → r .length ≡ length b → after ≡ over b before
+  pub delivery-derives : (after : List ℕ) → length b ≤ length before → (r .answer .number ≡ 0) × (r .answer .length ≡ length b) × (r .answer .«transaction_number» ≡ 0) → r .node ≡ 0 → r .scheme ≡ scheme → after ≡ over b before
       → Derives (withRoom (length before) (derived scheme b)) r before after
   unfolding withRoom derived choose
-  delivery-derives after h p q s l w = rw (le-ltb (length before) (length b) h) (record { number = p; node = q; scheme = s; length-is = l; output = w })
+  delivery-derives after h p q s w = rw (le-ltb (length before) (length b) h) (record { number = p .0; node = q; scheme = s; length-is = p .1; transaction-none = p .2; output = w })
 
 -- ---- rows
 
@@ -81,7 +81,7 @@ module _ (es : List Entry) (areas services : List ℕ) where
     unfolding chosen byRows firstOf choose
     chosen-full h = let f : (length (areas ++ services) ≡ 0 → ⊥) = λ z. h (sym listed ∙ z) in rw (ne-eqb (length (areas ++ services)) 0 f)
 
-  module _ (mark : ℕ) (r : DerivedAuthKeys) where
+  module _ (mark : ℕ) (r : Choice) where
     for-mark : (mark ≡ 0 → ⊥) → (individual : List ℕ) → derivedFor mark es areas services individual ≡ derivedBy mark es areas services individual
     unfolding derivedFor choose
     for-mark h individual = rw (ne-eqb mark 0 h)
@@ -94,25 +94,19 @@ module _ (es : List Entry) (areas services : List ℕ) where
         → Chooses mark es areas services r
     unfolding choose
     goes-by scheme h f =
-        record {
-          goes = λ i. f i ∙ ap (λ (s : ℕ). derivedBy s es areas services i) (sym (h .2)) ∙ rw (eq-eqb (r .number) 0 (h .0));
-          refuses = λ n. absurd (n (h .0));
-        }
+        record { goes = λ i. f i ∙ ap (λ (s : ℕ). derivedBy s es areas services i) (sym (h .2)) ∙ rw (eq-eqb (r .number) 0 (h .0)) }
 
-    goes-refused : (k n : ℕ) → Refuses k n r → (k ≡ 0 → ⊥) → ((individual : List ℕ) → derivedFor mark es areas services individual ≡ turnedDown k n) → Chooses mark es areas services r
+    goes-refused : (k n : ℕ) → (r .number ≡ k) × (r .node ≡ n) → (k ≡ 0 → ⊥) → ((individual : List ℕ) → derivedFor mark es areas services individual ≡ turnedDown k n) → Chooses mark es areas services r
     unfolding choose
     goes-refused k n h z f =
-        let y : (r .number ≡ 0 → ⊥) = λ q. z (sym (h .number-is) ∙ q) in
-        record {
-          goes = λ i. f i ∙ ap₂ turnedDown (sym (h .number-is)) (sym (h .node-is)) ∙ rw (ne-eqb (r .number) 0 y);
-          refuses = λ _. record { number-is = refl; node-is = refl; scheme-none = h .scheme-none; length-none = h .length-none };
-        }
+        let y : (r .number ≡ 0 → ⊥) = λ q. z (sym (h .0) ∙ q) in
+        record { goes = λ i. f i ∙ ap₂ turnedDown (sym (h .0)) (sym (h .1)) ∙ rw (ne-eqb (r .number) 0 y) }
 
     pub chooses-mark : (mark ≡ 0 → ⊥) → (r .number ≡ 0) × (r .node ≡ 0) × (r .scheme ≡ mark) → Chooses mark es areas services r
     chooses-mark h f = goes-by mark f (for-mark h)
 
     module _ (z : mark ≡ 0) where
-      pub chooses-none : length areas + length services ≡ 0 → Refuses 3 0 r → Chooses mark es areas services r
+      pub chooses-none : length areas + length services ≡ 0 → (r .number ≡ 3) × (r .node ≡ 0) → Chooses mark es areas services r
       chooses-none h f = goes-refused 3 0 f (λ q. omega arith) (λ i. for-zero z i ∙ chosen-empty i h)
 
       module _ (full : length areas + length services ≡ 0 → ⊥) (t : ℕ) (e : t ≡ target areas services) (a : Bool) (p : a ≡ has es t 2) where
@@ -128,16 +122,16 @@ module _ (es : List Entry) (areas services : List ℕ) where
           unfolding choose
           chooses-des v f = goes-by 1 f (λ i. for-zero z i ∙ chosen-full i full ∙ rw (has-target 2 a false p w, has-target 1 b true q v))
 
-          pub chooses-lacking : b ≡ false → Refuses 4 t r → Chooses mark es areas services r
+          pub chooses-lacking : b ≡ false → (r .number ≡ 4) × (r .node ≡ t) → Chooses mark es areas services r
           unfolding choose
           chooses-lacking v f =
               goes-refused 4 t f (λ y. omega arith) (λ i. for-zero z i ∙ chosen-full i full ∙ rw (has-target 2 a false p w, has-target 1 b false q v) (ap (turnedDown 4) (sym e)))
 
 -- the scheme that was chosen has answered
-module _ (mark : ℕ) (es : List Entry) (areas services individual : List ℕ) (g : DerivedAuthKeys) (c : Chooses mark es areas services g) where
-  pub choice-refused : (room : ℕ) (out : List ℕ) → (g .number ≡ 0 → ⊥) → Derives (withRoom room (derivedFor mark es areas services individual)) g out out
+module _ (mark : ℕ) (es : List Entry) (areas services individual : List ℕ) (g : Choice) (c : Chooses mark es areas services g) where
+  pub choice-refused : (r : DerivedAuthKeys) (room : ℕ) (out : List ℕ) → (g .number ≡ 0 → ⊥) → Refuses (g .number) (g .node) r → Derives (withRoom room (derivedFor mark es areas services individual)) r out out
   unfolding choose
-  choice-refused room out h = refusal-derives g room out _ (g .number) (g .node) (c .goes individual ∙ rw (ne-eqb (g .number) 0 h)) (c .refuses h)
+  choice-refused r room out h f = refusal-derives r room out _ (g .number) (g .node) (c .goes individual ∙ rw (ne-eqb (g .number) 0 h)) f
 
   module _ (z : g .number ≡ 0) (room : ℕ) (r : DerivedAuthKeys) (before after : List ℕ) where
     by-choice : derivedFor mark es areas services individual ≡ derivedBy (g .scheme) es areas services individual
@@ -199,10 +193,10 @@ module _ (l a b c : List ℕ) (e : l ≡ a ++ (b ++ c)) (k : ℕ) (p : length a 
   third-part : drop (8 + k * 8) l ≡ c
   third-part = sym (drop-drop (k * 8) 8 l) ∙ ap (drop (k * 8)) after-first ∙ drop-at b c (k * 8) q
 
-module _ (keys areas services : List ℕ) (g : Gathered) (w : List ℕ) (s : Holds (entries keys) 1 (0xFFFF ∷ (areas ++ services)) g w) (room : ℕ) (r : DerivedAuthKeys) where
-  pub bearing-refused : (out : List ℕ) → (g .number ≡ 0 → ⊥) → Refuses (g .number) (g .node) r → Derives (withRoom room (bearingDes (entries keys) areas services)) r out out
+module _ (keys areas services : List ℕ) (g : Gathered) (w : List ℕ) (s : Holds (entries keys) 1 (0xFFFF ∷ (areas ++ services)) g w) where
+  pub bearing-refused : (room : ℕ) (r : DerivedAuthKeys) (out : List ℕ) → (g .number ≡ 0 → ⊥) → Refuses (g .number) (g .node) r → Derives (withRoom room (bearingDes (entries keys) areas services)) r out out
   unfolding bearingDes
-  bearing-refused out h f = refusal-derives r room out _ (g .number) (g .node) (gather-refused (entries keys) 1 _ g w s _ h) f
+  bearing-refused room r out h f = refusal-derives r room out _ (g .number) (g .node) (gather-refused (entries keys) 1 _ g w s _ h) f
 
   module _ (z : g .number ≡ 0) where
     all-there : missing (entries keys) 1 (0xFFFF ∷ (areas ++ services)) .number ≡ 0
@@ -223,11 +217,11 @@ module _ (keys areas services : List ℕ) (g : Gathered) (w : List ℕ) (s : Hol
     pub middle-within : 8 + length areas * 8 ≤ length (take (g .size) w)
     middle-within = rw all-keys (simp length-append (omega (arith, system-long, areas-long)))
 
-    pub bearing-passed : (before after : List ℕ)
+    pub bearing-passed : (room : ℕ) (r : DerivedAuthKeys) (before after : List ℕ)
         → Derives (withRoom room (derived 1 (chainDes (take 8 (take (g .size) w)) (take (8 + length areas * 8 - 8) (drop 8 (take (g .size) w))) (drop (8 + length areas * 8) (take (g .size) w))))) r before after
         → Derives (withRoom room (bearingDes (entries keys) areas services)) r before after
     unfolding bearingDes
-    bearing-passed before after d =
+    bearing-passed room r before after d =
         let l : List ℕ = take (g .size) w in
         let x : List ℕ = keyOf (entries keys) 1 0xFFFF in
         let y : List ℕ = keysOf (entries keys) 1 areas in
@@ -328,8 +322,3 @@ module _ (mark : ℕ) (keys areas services individual : List ℕ) where
         → Derives (derivation mark keys areas services individual room) r before after
     unfolding derivation derivedBefore16
     guard-derives a s before after h p q d = rw (rows-pass (deriveRows mark keys areas services individual) _ k e h) (rw (p, q) at d)
-
--- ---- C
-
-pub derives-returns : (d : Derived) (a : DerivedAuthKeys) (r : ℕ) (before after : List ℕ) → Derives d a before after → r ≡ packed (a .number) (a .scheme) (a .length) (a .node) → ReturnsDerived d r before after
-derives-returns d a r before after m e = record { answer = e ∙ rw (m .number, m .scheme, m .length-is, m .node); output = m .output }

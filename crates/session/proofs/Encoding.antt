@@ -1,6 +1,6 @@
--- The session as bytes: when bytes are one, what a call with them gives, and that encoding loses nothing. Assumes nothing.
+-- The session as bytes: when bytes are one, that encoding loses nothing, and which bytes a change changes. Assumes nothing.
 use mathlib.Core.Path.{_≡_, refl, sym, ap, _∙_}
-use mathlib.Core.Bool.{Bool, true, false, true≢false}
+use mathlib.Core.Bool.{Bool, true, false}
 use mathlib.Core.List.{List, [], _∷_, _++_, append-nil, append-assoc}
 use Prim.Native.Nat.{ℕ, _+_, _*_, _/_, _%_, _≤_, _<_}
 use native.Mathlib.Omega.{arith}
@@ -9,18 +9,15 @@ use lib.Dec.{eqb, ltb, lit≤}
 use lib.ListN.{length, take, drop, getD, replicate, length-append, length-drop, take-append-drop, drop-of-length-le}
 use lib.Seq.{take-at, drop-at, take-all, getD-drop, drop-drop}
 use Rattle.cipher.specs.Bytes.{Bytes}
-use Rattle.answer.specs.Outcome.{firstOf}
 use Rattle.answer.specs.Number.{numberBytes, numberOf}
-use Rattle.answer.specs.Outcome.{Row, choose, decide, refused, accepted, over}
-use Rattle.felica_secure.specs.Packed.{packed}
-use Rattle.answer.specs.Tests.{isnt, either, both}
-use Rattle.answer.proofs.Rows.{numbered, decide-false, first-refuses, first-passes}
+use Rattle.answer.specs.Outcome.{choose, over}
+use Rattle.answer.specs.Tests.{either, both}
 use Rattle.answer.proofs.Elements.{elements, written-out}
 use Rattle.answer.proofs.Outputs.{copied-over}
 use Rattle.answer.proofs.Pieces.{copied-next}
 use Rattle.answer.proofs.Equality.{both-true}
-use Rattle.session.specs.Record.{contextOf, encode, decode, isSession, Call, Tells, Keeps, answering, callReceive, making, MakesKept}
-use Rattle.session.specs.Session.{makeRows, established, withNumber, withCount, more, counting, receiving, received}
+use Rattle.session.specs.Record.{contextOf, encode, decode, isSession}
+use Rattle.session.specs.Session.{withNumber, withCount}
 use Rattle.session.specs.declared.context.AuthenticatedContext.{AuthenticatedContext}
 
 -- ---- when bytes are a session
@@ -35,37 +32,22 @@ module _ (b : List ℕ) where
     unfolding isSession both
     other-version h = rw (eq-eqb (length b) 178 l, ne-eqb (getD b 0 0) 1 h)
 
-    pub by-mark : getD b 0 0 ≡ 1 → (k : Bool) → either (eqb (getD b 1 0) 1) (eqb (getD b 1 0) 2) ≡ k → k ≡ isSession b
-    unfolding isSession both
-    by-mark h k e = rw (eq-eqb (length b) 178 l, eq-eqb (getD b 0 0) 1 h) (sym e)
+    module _ (v : getD b 0 0 ≡ 1) where
+      pub other-mark : either (eqb (getD b 1 0) 1) (eqb (getD b 1 0) 2) ≡ false → false ≡ isSession b
+      unfolding isSession both
+      other-mark h = rw (eq-eqb (length b) 178 l, eq-eqb (getD b 0 0) 1 v, h)
+
+      pub by-count : either (eqb (getD b 1 0) 1) (eqb (getD b 1 0) 2) ≡ true → (k : Bool) → ltb (numberOf (drop 6 b)) 65 ≡ k → k ≡ isSession b
+      unfolding isSession both
+      by-count h k e = rw (eq-eqb (length b) 178 l, eq-eqb (getD b 0 0) 1 v, h) (sym e)
 
   pub session-size : isSession b ≡ true → length b ≡ 178
   unfolding isSession
   session-size h = eqb-true (length b) 178 (both-true _ _ h .0)
 
--- ---- a call
-
-module _ (call : AuthenticatedContext → Call) (b : List ℕ) (r : ℕ) where
-  -- bytes that are no session
-  module _ (n : isSession b ≡ false) (e : r ≡ 17) (out : List ℕ) where
-    pub no-tells : Tells call b r out out
-    unfolding choose over
-    no-tells = record { answer = e ∙ rw n; output = rw n }
-
-    pub no-keeps : Keeps call b b r out out
-    unfolding choose
-    no-keeps = record { tells = no-tells; session = rw n; again = λ y. absurd (true≢false (sym y ∙ n)) }
-
-  -- a session s
-  module _ (y : isSession b ≡ true) (s : AuthenticatedContext) (d : s ≡ decode b) (before after : List ℕ) (e : r ≡ call s .answer) (w : after ≡ over (call s .bytes) before) where
-    pub tells : Tells call b r before after
-    unfolding choose
-    tells = record { answer = e ∙ rw (y, d); output = w ∙ rw (y, d) }
-
-    pub keeps : (c : List ℕ) (t : AuthenticatedContext) → t ≡ call s .session → (c ≡ encode t) × (decode c ≡ t) → Keeps call b c r before after
-    unfolding choose
-    keeps c t q k =
-        record { tells = tells; session = k .0 ∙ ap encode q ∙ rw (y, d); again = λ z. k .1 ∙ q ∙ rw d }
+  pub session-version : isSession b ≡ true → getD b 0 0 ≡ 1
+  unfolding isSession
+  session-version h = eqb-true (getD b 0 0) 1 (both-true _ _ (both-true _ _ h .1) .0)
 
 -- ---- encoding
 
@@ -116,43 +98,6 @@ module _ (scheme number turned listed : ℕ) (id credentials nodes : List ℕ) (
         let n4 : length (head ++ id ++ credentials ++ nodes) ≡ 178 = length-append (head ++ id ++ credentials) nodes ∙ omega (arith, n3) in
         w4 ∙ ap (λ (j : ℕ). head ++ id ++ credentials ++ nodes ++ drop j zeros) n4 ∙ append-nil (head ++ id ++ credentials ++ nodes)
 
--- ---- making
-
-module _ (scheme number : ℕ) (id credentials listed : List ℕ) (r : ℕ) (before : List ℕ) where
-  rows : List Row
-  rows = makeRows scheme (length id) (length credentials) (length listed)
-
-  -- a refusal: the answer is its number
-  turned-down : (k : ℕ) → (k ≡ 0 → ⊥) → r ≡ k → making scheme number id credentials listed (length before) ≡ refused k → MakesKept scheme number id credentials listed r before before
-  unfolding refused over packed
-  turned-down k n e q =
-      let p : k ≡ k + 0 * 0x100 + 0 * 0x10000 + 0 * 0x100000000 = omega arith in
-      record { returns = rw q (record { answer = e ∙ p; output = refl }); again = rw q (λ z. absurd (n z)) }
-
-  pub making-other-size : (length before ≡ 178 → ⊥) → r ≡ 17 → MakesKept scheme number id credentials listed r before before
-  unfolding making decide choose isnt
-  making-other-size h e = turned-down 17 (λ z. omega arith) e (rw (ne-eqb (length before) 178 h))
-
-  module _ (l : length before ≡ 178) (k : ℕ) (f : k ≡ firstOf (makeRows scheme (length id) (length credentials) (length listed))) where
-    goes-on : making scheme number id credentials listed (length before) ≡ decide rows (accepted 0 (encode (established scheme number id credentials listed)))
-    unfolding making decide choose isnt rows
-    goes-on = rw (eq-eqb (length before) 178 l)
-
-    pub making-refused : (k ≡ 0 → ⊥) → r ≡ k → MakesKept scheme number id credentials listed r before before
-    unfolding rows
-    making-refused n e = turned-down k n e (goes-on ∙ first-refuses rows _ k f n)
-
-    pub making-made : k ≡ 0 → (s : AuthenticatedContext) (after : List ℕ) → s ≡ established scheme number id credentials listed → (after ≡ encode s) × (decode after ≡ s) → length after ≡ 178
-        → r ≡ packed 0 0 178 0 → MakesKept scheme number id credentials listed r before after
-    unfolding rows makeRows numbered both accepted over
-    making-made z s after q e n a =
-        let m : making scheme number id credentials listed (length before) ≡ accepted 0 (encode (established scheme number id credentials listed)) =
-        goes-on ∙ decide-false rows _ (first-passes rows k refl f z) in
-        let w : encode (established scheme number id credentials listed) ≡ after = sym (e .0 ∙ ap encode q) in
-        let h : length before ≤ length after = omega arith in
-        let t : drop (length after) before ≡ [] = drop-of-length-le before h in
-        record { returns = rw (m, w) (record { answer = a ∙ rw n; output = rw t (sym (append-nil after)) }); again = λ y. e .1 ∙ q }
-
 -- ---- the bytes that a call changes
 
 -- a session's bytes are its eight first, its ID, its credentials and its nodes
@@ -201,18 +146,7 @@ module _ (b : List ℕ) (l : length b ≡ 178) where
       encode-number n =
           rw (low 4, high 4, low 6, high 6, rest) (sym (ap (λ (t : List ℕ). take 2 t ++ numberBytes n ++ drop 4 t) (first-eight version)))
 
-counted : (b : List ℕ) (l : length b ≡ 178) (bytes : Bytes b) (v : getD b 0 0 ≡ 1) (n : ℕ) (p : Bool) → encode (choose p (withCount n (decode b)) (decode b)) ≡ choose p (take 4 b ++ numberBytes n ++ drop 6 b) b
+pub counted : (b : List ℕ) (l : length b ≡ 178) (bytes : Bytes b) (v : getD b 0 0 ≡ 1) (n : ℕ) (p : Bool) → encode (choose p (withCount n (decode b)) (decode b)) ≡ choose p (take 4 b ++ numberBytes n ++ drop 6 b) b
 unfolding choose
 counted b l bytes v n true = encode-count b l bytes v n
 counted b l bytes v n false = encode-decode b l bytes v
-
--- a response that is turned away: of the session's bytes the count's two change, where it is counted, and no other
-pub turned-away-bytes : (b c before after : List ℕ) (r code room : ℕ) (d : List ℕ) → isSession b ≡ true → Bytes b → Keeps (callReceive code d room) b c r before after
-    → (k : ℕ) → receiving (decode b) code d room .number ≡ k → (k ≡ 0 → ⊥)
-    → c ≡ choose (both (ltb 9 k) (ltb k 16)) (take 4 b ++ numberBytes (more (decode b .«turned_away»)) ++ drop 6 b) b
-unfolding callReceive answering received counting choose isSession
-turned-away-bytes b c before after r code room d y bytes keeps k e n =
-    let t = both-true _ _ y in
-    let l = eqb-true (length b) 178 (t .0) in
-    let v = eqb-true (getD b 0 0) 1 (both-true _ _ (t .1) .0) in
-    keeps .session ∙ rw (y, e, ne-eqb k 0 n) (counted b l bytes v (more (decode b .«turned_away»)) (both (ltb 9 k) (ltb k 16)))

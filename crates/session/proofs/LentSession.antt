@@ -16,14 +16,14 @@ use denote.Memory.{partAt, partOf, cellAt}
 use denote.Struct.Steps.{spelt}
 use denote.Struct.Laws as LL
 use Rattle.session.specs.declared.context.AuthenticatedContext.{AuthenticatedContext}
-use Rattle.session.specs.declared.context.StepAnswer.{StepAnswer}
+use Rattle.answer.specs.declared.answer.Answer.{Answer}
 use Rattle.session.specs.declared.context.Stepped.{Stepped}
 use Rattle.session.proofs.context.AuthenticatedContext as T
 use Rattle.session.proofs.context.AuthenticatedContext.Laws as T′
 use Rattle.session.proofs.context.Stepped as S
 use Rattle.session.proofs.context.Stepped.Laws as S′
-use Rattle.session.proofs.context.StepAnswer as E
-use Rattle.session.proofs.context.StepAnswer.Laws as E′
+use Rattle.answer.proofs.answer.Answer as E
+use Rattle.answer.proofs.answer.Answer.Laws as E′
 
 -- machine values
 abbrev pub session-val : AuthenticatedContext → Val
@@ -32,7 +32,7 @@ session-val = LL.val T.the-type T′.the-laws
 abbrev pub stepped-val : Stepped → Val
 stepped-val = LL.val S.the-type S′.the-laws
 
-abbrev pub answer-val : StepAnswer → Val
+abbrev pub answer-val : Answer → Val
 answer-val = LL.val E.the-type E′.the-laws
 
 module _ {M : Type 1} (𝓤 : URA M) (H : Heap 𝓤) (A : Atoms 𝓤) (W : Given 𝓤 H A) where

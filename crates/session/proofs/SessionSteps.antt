@@ -10,27 +10,26 @@ use borrow.Author.Tests.{eq-eqb, ne-eqb, lt-ltb, le-ltb, ltb-false}
 use lib.Dec.{eqb, lit≤}
 use lib.ListN.{length, take, drop, replicate, length-append, length-replicate}
 use lib.Seq.{take-all}
-use Rattle.answer.specs.Outcome.{firstOf}
-use Rattle.answer.specs.Outcome.{Row, choose, decide, refused, over}
+use Rattle.answer.specs.Outcome.{Row, Meets, choose, decide, refused, firstOf, over}
 use Rattle.answer.specs.Tests.{either, both}
 use Rattle.cipher.proofs.Numbers.{le-or-lt}
-use Rattle.answer.proofs.Rows.{numbered, decide-false, first-refuses, first-passes, either-false, is-number}
+use Rattle.answer.proofs.Rows.{Refused, refused-meets, numbered, decide-false, first-refuses, first-passes, either-false, is-number}
 use Rattle.frame.proofs.Schemes.{opening-whole}
 use Rattle.session.specs.Session.{credentialsSize, credentialsOf, makeRows, filled, withNumber, withCount, stepped, Steps, more, counting, opened, acceptRows, receiving, received, Receives}
 use Rattle.session.specs.declared.context.AuthenticatedContext.{AuthenticatedContext}
-use Rattle.session.specs.declared.context.StepAnswer.{StepAnswer}
+use Rattle.answer.specs.declared.answer.Answer.{Answer}
 use Rattle.session.specs.declared.context.Received.{Received}
 
 -- ---- the number step
 
-module _ (s : AuthenticatedContext) (r : StepAnswer) (u : AuthenticatedContext) where
-  pub steps-refused : s .«transaction_number» ≡ 65535 → r .number ≡ 9 → r .«transaction_number» ≡ 0 → u ≡ s → Steps s r u
+module _ (s : AuthenticatedContext) (r : Answer) (u : AuthenticatedContext) where
+  pub steps-refused : s .«transaction_number» ≡ 65535 → Refused 9 r → u ≡ s → Steps s r u
   unfolding stepped choose
-  steps-refused e n t c = let q = eq-eqb _ _ e in record { number = n ∙ rw q; transaction = t ∙ rw q; session = c ∙ rw q }
+  steps-refused e h c = let q = eq-eqb _ _ e in record { number = h .0 ∙ rw q; length-none = h .1; transaction = h .2 ∙ rw q; session = c ∙ rw q }
 
-  pub steps-on : (s .«transaction_number» ≡ 65535 → ⊥) → r .number ≡ 0 → r .«transaction_number» ≡ s .«transaction_number» + 1 → u ≡ withNumber (s .«transaction_number» + 1) s → Steps s r u
+  pub steps-on : (s .«transaction_number» ≡ 65535 → ⊥) → (r .number ≡ 0) × (r .length ≡ 0) × (r .«transaction_number» ≡ s .«transaction_number» + 1) → u ≡ withNumber (s .«transaction_number» + 1) s → Steps s r u
   unfolding stepped choose
-  steps-on e n t c = let q = ne-eqb _ _ e in record { number = n ∙ rw q; transaction = t ∙ rw q; session = c ∙ rw q }
+  steps-on e h c = let q = ne-eqb _ _ e in record { number = h .0 ∙ rw q; length-none = h .1; transaction = h .2 ∙ rw q; session = c ∙ rw q }
 
 -- ---- the count
 
@@ -141,12 +140,12 @@ accept-fits session number payload room k e z = ltb-false room payload (first-pa
 
 -- what `turn_away` ensures
 abbrev pub TurnedAway : ℕ → AuthenticatedContext → Received → Type 0
-TurnedAway k s r = (r .number ≡ k) × (r .length ≡ 0) × (r .«transaction_number» ≡ 0) × (r .context ≡ counting k s)
+TurnedAway k s r = (r .answer .number ≡ k) × (r .answer .length ≡ 0) × (r .answer .«transaction_number» ≡ 0) × (r .context ≡ counting k s)
 
 module _ (s : AuthenticatedContext) (r : Received) where
   turned-away : (k : ℕ) (out : List ℕ) → (k ≡ 0 → ⊥) → TurnedAway k s r → Receives s (refused k) r out out
-  unfolding refused over received choose
-  turned-away k out h t = record { number = t .0; length-is = t .1; transaction = t .2; output = refl; session = t .3 ∙ rw (ne-eqb k 0 h) }
+  unfolding refused received choose
+  turned-away k out h t = record { answer = refused-meets k (r .answer) out (t .0, t .1, t .2); session = t .3 ∙ rw (ne-eqb k 0 h) }
 
   module _ (code : ℕ) (d : List ℕ) (room : ℕ) where
     pub receives-refused : (out : List ℕ) → (opened s code d .number ≡ 0 → ⊥) → TurnedAway (opened s code d .number) s r → Receives s (receiving s code d room) r out out
@@ -169,9 +168,9 @@ module _ (s : AuthenticatedContext) (r : Received) where
       receives-guarded k out e h t = rw (goes-on, first-refuses rows (opened s code d) k e h) (turned-away k out h t)
 
       pub receives-accepted : (k : ℕ) (out after : List ℕ) → k ≡ firstOf (acceptRows (s .«transaction_number») (opened s code d .transaction) (length (opened s code d .bytes)) room) → k ≡ 0
-          → r .number ≡ 0 → r .length ≡ length (opened s code d .bytes) → r .«transaction_number» ≡ opened s code d .transaction → after ≡ over (opened s code d .bytes) out
+          → (work done : List ℕ) → Meets (opened s code d) (r .answer) work done → after ≡ over (opened s code d .bytes) out
           → r .context ≡ withNumber (opened s code d .transaction) s → Receives s (receiving s code d room) r out after
       unfolding rows acceptRows numbered both received choose
-      receives-accepted k out after e n number l t w c =
+      receives-accepted k out after e n work done m w c =
           rw (goes-on, decide-false rows (opened s code d) (first-passes rows k refl e n))
-          (record { number = number ∙ sym z; length-is = l; transaction = t; output = w; session = c ∙ rw (eq-eqb _ 0 z) })
+          (record { answer = record { number = m .number; length-is = m .length-is; transaction = m .transaction; output = w }; session = c ∙ rw (eq-eqb _ 0 z) })

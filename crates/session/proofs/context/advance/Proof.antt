@@ -42,15 +42,15 @@ use denote.Triple.Walked.{says, Stays, stay-dropped, walkOf, goes-dropped, Walks
 use denote.Exit.{yes}
 use Rattle.session.specs.declared.context.AuthenticatedContext.{AuthenticatedContext}
 use Rattle.session.specs.declared.context.Stepped.{Stepped}
-use Rattle.session.specs.declared.context.StepAnswer.{StepAnswer}
+use Rattle.answer.specs.declared.answer.Answer.{Answer}
 use Rattle.session.specs.Session.{Steps}
 use Rattle.session.proofs.LentSession.{session-val, stepped-val, cell-in, cell-out}
 use Rattle.session.proofs.context.AuthenticatedContext as T
 use Rattle.session.proofs.context.AuthenticatedContext.Laws as T′
 use Rattle.session.proofs.context.Stepped as S
 use Rattle.session.proofs.context.Stepped.Laws as S′
-use Rattle.session.proofs.context.StepAnswer as E
-use Rattle.session.proofs.context.StepAnswer.Laws as E′
+use Rattle.answer.proofs.answer.Answer as E
+use Rattle.answer.proofs.answer.Answer.Laws as E′
 use Rattle.session.proofs.context.increment_transaction_number as inc
 use Rattle.session.proofs.context.increment_transaction_number.Symbol as inc-def
 use Rattle.session.proofs.context.increment_transaction_number.Symbol.{name as #inc}
@@ -81,13 +81,13 @@ module _ {M : Type 1} (𝓤 : URA M) (H : Heap 𝓤) (A : Atoms 𝓤) (W : Given
   asked : (α l : ℕ) (γ : GName) → ent 𝓤 (onEntry 𝓤 H A inc.signature (α ∷ [], tt) (fullShare, tt) (ref l γ, tt) (vptr l 0 ∷ [], tt)) (Inc 𝓤 H A mem run .pre (to-inc α l γ))
   asked α l γ = qed W ((‵ (flft (α ∷ []) fullShare) ⊛ ‵ ftrue) ∷ ‵ (owns (MutRef (named 0) (α ∷ []) T.the-row ∷ []) (ref l γ, tt) (vptr l 0 ∷ [], tt)) ∷ []) ∵ join ! $ frame ! $ done !
 
-  abbrev Did : StepAnswer → AuthenticatedContext → Type 0
+  abbrev Did : Answer → AuthenticatedContext → Type 0
   Did r z = Steps h r z
 
-  abbrev made : StepAnswer → AuthenticatedContext → Stepped
+  abbrev made : Answer → AuthenticatedContext → Stepped
   made r z = record { answer = r; context = z }
 
-  exits : (r : StepAnswer) (z : AuthenticatedContext) → Did r z → Is S.the-row (made r z) (stepped-val (made r z) ∷ []) → ent 𝓤 (sem 𝓤 H A ftrue) (Post (stepped-val (made r z)))
+  exits : (r : Answer) (z : AuthenticatedContext) → Did r z → Is S.the-row (made r z) (stepped-val (made r z) ∷ []) → ent 𝓤 (sem 𝓤 H A ftrue) (Post (stepped-val (made r z)))
   exits r z e is =
       qed W (‵ ftrue ∷ []) ∵ suffices ! _ (ends-at 𝓤 H A f.ended stayed (f.clauses 𝓤 H A mem run) W ((tt, tt, tt, (h, tt), (session-val h ∷ [], tt)), tt) (stepped-val (made r z)) (made r z) (tt, tt) (tt, tt)) $ says ! e $
       frame ! $ nothing ! $ nothing ! $ fjoin ! $ frame ! $ owned ! S.the-row (Is S.the-row) (LL.makes S.the-type S′.the-plain 𝓤 H A) (made r z) _ is $ done !
@@ -106,7 +106,7 @@ module _ {M : Type 1} (𝓤 : URA M) (H : Heap 𝓤) (A : Atoms 𝓤) (W : Given
         use1 W (later (some (λ (γ : GName). ‵ (MutRef (named 0) (α ∷ []) T.the-row .own (ref l₂ γ) (vptr l₂ 0 ∷ [])) ⊛ ‵ (flent (α ∷ []) (Body (in-mem T.the-row) l₂ 0 γ))))) (lends-ref 𝓤 H A W T.the-row (named 0) (α ∷ []) h l₂ 0) $ await ! tt $ pick ! (λ γ. split ! $
         nothing ! $ move ! (1 ∷ 0 ∷ []) $ fjoin ! $ nothing ! $ move ! (3 ∷ 0 ∷ []) $ join ! $ use2 W (raw (Inc 𝓤 H A mem run .pre (to-inc α l₂ γ))) (asked α l₂ γ) $
         calls-at ! fm (Inc 𝓤 H A mem run) known (to-inc α l₂ γ) (and-then ! (load ! (from ! (stop !)) (look ! 4 refl)) (no-more !)) (λ u.
-        use1 W (later (some (λ (r : StepAnswer). ((‵ (flft (α ∷ []) fullShare) ⊛ ‵ ftrue) ⊛ ‵ (E.the-row .own r (u ∷ []))) ⊛ raw (ensured 𝓤 H A inc.ended (inc.clauses 𝓤 H A mem run) (α ∷ [], tt) (ref l₂ γ, tt) tt r)))) (id⊢ 𝓤 _) $ await ! tt $ pick ! (λ r.
+        use1 W (later (some (λ (r : Answer). ((‵ (flft (α ∷ []) fullShare) ⊛ ‵ ftrue) ⊛ ‵ (E.the-row .own r (u ∷ []))) ⊛ raw (ensured 𝓤 H A inc.ended (inc.clauses 𝓤 H A mem run) (α ∷ [], tt) (ref l₂ γ, tt) tt r)))) (id⊢ 𝓤 _) $ await ! tt $ pick ! (λ r.
         split ! $ move ! (1 ∷ []) $ use1 W (some (λ (zs : AuthenticatedContext × Unit {0}). ‵ (lasts inc.ended (α ∷ [], tt) (ref l₂ γ, tt) zs) ⊛ raw (fact 𝓤 (Did r (zs .0))))) (id⊢ 𝓤 _) $ pick ! (λ zs.
         split ! $ move ! (1 ∷ []) $ heard ! (Did r (zs .0)) (λ e. fsplit ! $ move ! (1 ∷ []) $ kit.drop ! $ move ! (1 ∷ []) $ split ! $ move ! (1 ∷ []) $
         -- [the answer; the token and true; the last value; the lender's part; _5; …]

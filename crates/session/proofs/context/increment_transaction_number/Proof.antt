@@ -46,8 +46,8 @@ use Rattle.session.proofs.context.AuthenticatedContext as T
 use Rattle.session.proofs.context.AuthenticatedContext.Laws as T′
 use Rattle.session.proofs.context.Stepped as S
 use Rattle.session.proofs.context.Stepped.Laws as S′
-use Rattle.session.proofs.context.StepAnswer as E
-use Rattle.session.proofs.context.StepAnswer.Laws as E′
+use Rattle.answer.proofs.answer.Answer as E
+use Rattle.answer.proofs.answer.Answer.Laws as E′
 use Rattle.session.proofs.context.AuthenticatedContext.step as step
 use Rattle.session.proofs.context.AuthenticatedContext.step.Symbol as step-def
 use Rattle.session.proofs.context.AuthenticatedContext.step.Symbol.{name as #step}

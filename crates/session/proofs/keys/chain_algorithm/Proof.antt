@@ -1,3 +1,4 @@
+use mathlib.Core.Path.{refl}
 use Rattle.session.proofs.DerivationSteps.{chooses-mark, chooses-none, chooses-aes, chooses-des, chooses-lacking}
 use borrow.Author.Needs.{needs}
 use Rattle.session.proofs.keys.chain_algorithm.Statement.{statement}
@@ -12,11 +13,8 @@ returns c = chooses-mark _ _ _ _ _ (c .before .if1 .taken) (c .by-scheme .ensure
 add-listed : tie.Need-add-listed
 add-listed c = search needs
 
-refused-requires : tie.Need-refused-requires
-refused-requires c κs = search needs
-
 returns-2 : tie.Need-returns-2
-returns-2 c = chooses-none _ _ _ _ _ (c .before .before .if1 .left) (c .before .if2 .taken) (c .refused .ensures)
+returns-2 c = chooses-none _ _ _ _ _ (c .before .if1 .left) (c .if2 .taken) (refl, refl)
 
 target-node-requires : tie.Need-target-node-requires
 target-node-requires c κs = search needs
@@ -48,16 +46,12 @@ returns-4 c =
     let e = t .before in
     chooses-des _ _ _ _ _ (e .before .if1 .left) (e .if2 .left) _ (t .target-node .ensures) _ (i .before .has-key .ensures) (i .if3 .left) _ (j .before .has-key2 .ensures) (j .if4 .taken) (c .by-scheme3 .ensures)
 
-refused-requires-2 : tie.Need-refused-requires-2
-refused-requires-2 c κs = search needs
-
 returns-5 : tie.Need-returns-5
 returns-5 c =
-    let j = c .before in
-    let i = j .before .before in
+    let i = c .before .before in
     let t = i .before .before in
     let e = t .before in
-    chooses-lacking _ _ _ _ _ (e .before .if1 .left) (e .if2 .left) _ (t .target-node .ensures) _ (i .before .has-key .ensures) (i .if3 .left) _ (j .before .has-key2 .ensures) (j .if4 .left) (c .refused2 .ensures)
+    chooses-lacking _ _ _ _ _ (e .before .if1 .left) (e .if2 .left) _ (t .target-node .ensures) _ (i .before .has-key .ensures) (i .if3 .left) _ (c .before .has-key2 .ensures) (c .if4 .left) (refl, refl)
 
 pub chain-algorithm-spec : {M : Type 1} → statement M
 chain-algorithm-spec =
@@ -66,7 +60,6 @@ chain-algorithm-spec =
     by-scheme-requires
     returns
     add-listed
-    refused-requires
     returns-2
     target-node-requires
     has-key-requires
@@ -75,5 +68,4 @@ chain-algorithm-spec =
     has-key-requires-2
     by-scheme-requires-3
     returns-4
-    refused-requires-2
     returns-5)

@@ -15,7 +15,7 @@ slice-aggregate-eight c =
     sym (length-take-le 8 g h)
 
 eight-requires : tie.Need-eight-requires
-eight-requires c κs = sym (slice-aggregate-eight c)
+eight-requires c κs = search needs
 
 sub-encrypt-des-under-each : tie.Need-sub-encrypt-des-under-each
 sub-encrypt-des-under-each c = search needs
@@ -60,7 +60,7 @@ returns c =
     let e1 = e2 .before .before in
     let e = e1 .before .before in
     let a = e .before .before .before .before .args in
-    rw (chain-is (a .gathered .now) (a .middle) _ _ _ (e .eight .ensures) (e1 .encrypt-des-under-each .ensures) (e2 .encrypt-des-under-each2 .ensures)) at (d .deliver .ensures)
+    rw (chain-is (a .gathered .now) (a .middle) _ _ _ (e .eight .ensures .1 (sym (slice-aggregate-eight (e .before)))) (e1 .encrypt-des-under-each .ensures) (e2 .encrypt-des-under-each2 .ensures)) at (d .deliver .ensures)
 
 pub chain-des-spec : {M : Type 1} → statement M
 chain-des-spec =

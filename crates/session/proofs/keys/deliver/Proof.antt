@@ -1,4 +1,4 @@
-use mathlib.Core.Path.{_≡_, refl, sym}
+use mathlib.Core.Path.{_≡_, refl, sym, _∙_}
 use Prim.Native.Nat.{_+_, _-_, _≤_, _<_}
 use mathlib.Core.List.{_++_}
 use lib.ListN.{length, length-append}
@@ -39,15 +39,15 @@ part-copy-end c = search needs
 copy-requires-2 : tie.Need-copy-requires-2
 copy-requires-2 c κs = search needs
 
-cast-t15 : tie.Need-cast-t15
-cast-t15 c = search needs
+cast-sized : tie.Need-cast-sized
+cast-sized c = search needs
 
 same-length : tie.Need-same-length
 same-length c = search needs
 
 returns-2 : tie.Need-returns-2
 returns-2 c =
-    let c2 = c .before .before in
+    let c2 = c .before .before .before in
     let c1 = c2 .before .before .before .before in
     let i = c1 .before .before in
     let a = i .before .before .before .before .args in
@@ -56,11 +56,12 @@ returns-2 c =
     let o = a .out .now in
     let e = length-append x y in
     let left = i .if1 .left in
+    let s = c .sized .ensures in
     let h : length (x ++ y) ≤ length o = omega arith in
     let g : length x ≤ length o = omega arith in
     let k : length y ≡ length x + length y - length x = omega arith in
     let m : length x + (length x + length y - length x) ≤ length o = omega arith in
-    delivery-derives (a .scheme) (x ++ y) _ o _ h refl refl refl (sym e)
+    delivery-derives (a .scheme) (x ++ y) _ o _ h (s .0, s .1 ∙ sym e, s .2) refl refl
     (copied-next x o _ (length x) (length x + length y - length x) refl m (copied-over x o _ g (c1 .copy .ensures)) y _ k (c2 .copy2 .ensures))
 
 pub deliver-spec : {M : Type 1} → statement M
@@ -75,6 +76,7 @@ deliver-spec =
     part-copy-start
     part-copy-end
     copy-requires-2
-    cast-t15
+    cast-sized
+    (λ c κs. search needs)
     same-length
     returns-2)

@@ -63,7 +63,7 @@ chain-des-requires c κs =
     let n = o .before .before .nothing-gathered .ensures in
     let s = b .gather2 .ensures .1 _ (a .gather .ensures .1 _ (o .gather-one .ensures .1 [] (holds-start _ _ _ _ (n .0) (n .1) (n .2)))) in
     let x = o .before .before .before .before .before .before .before .args in
-    (omega arith, middle-within (x .keys .now) (x .areas .now) (x .services .now) _ _ s 0 (record { number = 0; node = 0; scheme = 0; length = 0 }) (i .if1 .left))
+    (omega arith, middle-within (x .keys .now) (x .areas .now) (x .services .now) _ _ s (i .if1 .left))
 
 same-length : tie.Need-same-length
 same-length c = search needs
@@ -77,7 +77,7 @@ returns-2 c =
     let o = a .before .before .before in
     let n = o .before .before .nothing-gathered .ensures in
     let s = b .gather2 .ensures .1 _ (a .gather .ensures .1 _ (o .gather-one .ensures .1 [] (holds-start _ _ _ _ (n .0) (n .1) (n .2)))) in
-    bearing-passed _ _ _ _ _ s _ _ (i .if1 .left) _ _ (d .chain-des .ensures)
+    bearing-passed _ _ _ _ _ s (i .if1 .left) _ _ _ _ (d .chain-des .ensures)
 
 pub derive-des-bearing-spec : {M : Type 1} → statement M
 derive-des-bearing-spec =

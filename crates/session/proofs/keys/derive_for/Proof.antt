@@ -7,7 +7,9 @@ chain-algorithm-requires : tie.Need-chain-algorithm-requires
 chain-algorithm-requires c κs = search needs
 
 returns : tie.Need-returns
-returns c = choice-refused _ _ _ _ _ _ (c .before .before .chain-algorithm .ensures) _ _ (c .if1 .taken)
+returns c =
+    let i = c .before in
+    choice-refused _ _ _ _ _ _ (i .before .before .chain-algorithm .ensures) _ _ _ (i .if1 .taken) (c .refused .ensures)
 
 derive-des-requires : tie.Need-derive-des-requires
 derive-des-requires c κs = search needs
@@ -40,6 +42,7 @@ derive-for-spec =
     tie.close
     (tie.spec
     chain-algorithm-requires
+    (λ c κs. search needs)
     returns
     derive-des-requires
     same-length

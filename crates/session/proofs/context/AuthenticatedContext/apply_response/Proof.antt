@@ -1,4 +1,4 @@
-use mathlib.Core.Path.{_≡_, refl, sym, ap, _∙_}
+use mathlib.Core.Path.{_≡_, sym, ap, _∙_}
 use mathlib.Core.List.{List}
 use Prim.Native.Nat.{ℕ, _-_, _≤_}
 use native.Mathlib.Nat.{sub-zero}
@@ -92,7 +92,7 @@ returns-3 c =
     let b : take (n - 0) w ≡ d .bytes = rw (sub-zero n) (front (d .bytes) (replicate 256 0) w n (sym (m .length-is)) (m .output)) in
     let f : length (take (n - 0) w) ≤ length o = rw b (rw (m .length-is) at (accept-fits _ _ _ _ _ k (i2 .if2 .left))) in
     receives-accepted (a .self) _ (a .code) (a .«data» .now) (length o) (sym (m .number) ∙ i .if1 .left) _ o _
-    (rw (m .transaction, m .length-is) at k) (i2 .if2 .left) refl (m .length-is) (m .transaction)
+    (rw (m .transaction, m .length-is) at k) (i2 .if2 .left) (replicate 256 0) w m
     (copied-over (take (n - 0) w) o _ f (cp .copy .ensures) ∙ ap (λ (l : List ℕ). over l o) b)
     (c .with-transaction-number .ensures ∙ ap (λ (t : ℕ). withNumber t (a .self)) (m .transaction))
 

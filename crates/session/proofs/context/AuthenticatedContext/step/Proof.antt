@@ -5,17 +5,10 @@ use Rattle.session.proofs.context.AuthenticatedContext.step.Statement.{
 use Rattle.session.proofs.context.AuthenticatedContext.step.Tie as tie
 
 returns : tie.Need-returns
-returns c = steps-refused _ _ _ (c .if1 .taken) refl refl refl
-
-add-next : tie.Need-add-next
-add-next c = search needs
-
-with-transaction-number-requires : tie.Need-with-transaction-number-requires
-with-transaction-number-requires c κs = search needs
+returns c = steps-refused _ _ _ (c .before .if1 .taken) (c .refused .ensures) refl
 
 returns-2 : tie.Need-returns-2
-returns-2 c = steps-on _ _ _ (c .before .if1 .left) refl refl (c .with-transaction-number .ensures)
+returns-2 c = steps-on _ _ _ (c .before .before .if1 .left) (c .before .numbered .ensures) (c .with-transaction-number .ensures)
 
 pub step-spec : {M : Type 1} → statement M
-step-spec =
-    tie.close (tie.spec returns add-next with-transaction-number-requires returns-2)
+step-spec = tie.close (tie.spec (λ c κs. search needs) returns (λ c. search needs) (λ c κs. search needs) (λ c κs. search needs) returns-2)
