@@ -8,7 +8,9 @@ use lib.ListN.{length}
 use Rattle.answer.specs.declared.answer.Answer.{Answer}
 use Rattle.answer.specs.Outcome.{Outcome, Meets}
 use Rattle.frame.specs.Scheme.{Forecast}
-use Rattle.felica_secure.specs.Packed.{packed, packedNumber, packedMark, packedLength, packedTransaction, Returns}
+use Rattle.felica_secure.specs.Packed.{packed, packedNumber, packedMark, packedLength, packedTransaction, Returns, ReturnsDerived}
+use Rattle.session.specs.Derivation.{Derived, Derives}
+use Rattle.session.specs.declared.keys.DerivedAuthKeys.{DerivedAuthKeys}
 
 -- the parts of a packed answer are what was packed
 module _ (number mark length transaction : ℕ) (hn : number < 0x100) (hm : mark < 0x100) (hl : length < 0x10000) (ht : transaction < 0x10000) where
@@ -40,3 +42,7 @@ forecast-packed scheme n a r hn hl f e =
     let k : packedNumber r ≡ a .number = ap packedNumber q ∙ packed-number (a .number) 0 (a .length) 0 hn (lit< tt) hl (lit< tt) in
     let l : packedLength r ≡ a .length = ap packedLength q ∙ packed-length (a .number) 0 (a .length) 0 hn (lit< tt) hl (lit< tt) in
     (rw (k, l) q, rw (k, l) (f .0))
+
+-- a derivation's answer, packed
+pub derives-returns : (d : Derived) (a : DerivedAuthKeys) (r : ℕ) (before after : List ℕ) → Derives d a before after → r ≡ packed (a .answer .number) (a .scheme) (a .answer .length) (a .node) → ReturnsDerived d r before after
+derives-returns d a r before after m e = record { answer = e ∙ rw (m .number, m .scheme, m .length-is, m .node); output = m .output }

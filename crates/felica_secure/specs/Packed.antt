@@ -5,6 +5,7 @@ use mathlib.Core.Path.{_≡_}
 use mathlib.Core.List.{List}
 use lib.ListN.{length}
 use Rattle.answer.specs.Outcome.{Outcome, over}
+use Rattle.session.specs.Derivation.{Derived}
 
 unfoldable pub packed : ℕ → ℕ → ℕ → ℕ → ℕ
 packed number mark length transaction = number + mark * 0x100 + length * 0x10000 + transaction * 0x100000000
@@ -26,3 +27,8 @@ packedTransaction r = r / 0x100000000 % 0x10000
 pub record Returns (o : Outcome) (r : ℕ) (before after : List ℕ) : Type 0 where
   pub answer : r ≡ packed (o .number) 0 (length (o .bytes)) (o .transaction)
   pub output : after ≡ over (o .bytes) before
+
+-- the same of a derivation, with its scheme mark, and the node in the place of a transaction number
+pub record ReturnsDerived (d : Derived) (r : ℕ) (before after : List ℕ) : Type 0 where
+  pub answer : r ≡ packed (d .number) (d .scheme) (length (d .bytes)) (d .node)
+  pub output : after ≡ over (d .bytes) before

@@ -1,16 +1,16 @@
-// The session as C functions: bytes that the caller keeps (specs/Record). Each call decodes them, and encodes the session that it leaves.
-use crate::answer;
-use crate::context;
-use crate::context::AuthenticatedContext;
-use crate::context::StepAnswer;
-use crate::ffi;
+// The session as C functions: bytes that the caller keeps (specs/Record of crate session). Each call decodes them, and encodes the session that
+// it leaves.
+use crate::pack;
+use session::AuthenticatedContext;
 ghost use mathlib.Core.Path.{_≡_};
 ghost use mathlib.Core.List.{[]};
 ghost use lib.ListN.{length};
-ghost use Rattle.felica_secure.specs.Packed.{packed};
-ghost use Rattle.session.specs.Record.{encode, decode, isSession, Tells, Keeps, MakesKept, callStep, callSet, callSeal, callReceive, callIndex, callNumber, callCount, callScheme, callId, callNodes};
+ghost use Rattle.felica_secure.specs.Calls.{Tells, Keeps, MakesKept};
+ghost use Rattle.felica_secure.specs.SessionCalls.{keptSession, callStep, callSet, callSeal, callReceive, callIndex, callNumber, callCount, callScheme, callId, callNodes};
+ghost use Rattle.session.specs.Record.{encode, decode, isSession};
+ghost use Rattle.session.specs.Session.{makeRows, established};
 
-// Bytes are a session: their size, the version, the scheme mark.
+// Bytes are a session: their size, the version, the scheme mark, at most 64 nodes.
 fn is_session(bytes: &[u8]) -> bool
     ensures { λ r. ⌜ r ≡ isSession (now (bytes .entry)) ⌝ }
 {
@@ -26,7 +26,7 @@ fn is_session(bytes: &[u8]) -> bool
     if 2 < bytes[1] {
         return false;
     }
-    true
+    answer::transaction_number(&bytes[6..8]) < 65
 }
 
 // The session of these bytes.
@@ -48,13 +48,6 @@ fn store(context: AuthenticatedContext, bytes: &mut [u8])
     cipher::copy(&kept, bytes);
 }
 
-// The answer of a step as C gets it.
-fn pack_step(answer: StepAnswer) -> u64
-    ensures { λ r. ⌜ r ≡ packed (answer .number) 0 0 (answer .«transaction_number») ⌝ }
-{
-    ffi::pack_all(answer.number, 0, 0, answer.transaction_number)
-}
-
 // Makes a session.
 #[no_mangle]
 pub extern "C" fn felica_session_new(
@@ -65,7 +58,7 @@ pub extern "C" fn felica_session_new(
     nodes: &[u8],
     session: &mut [u8],
 ) -> u64
-    ensures { λ r. ⌜ MakesKept scheme number (now (id .entry)) (now (credentials .entry)) (now (nodes .entry)) r (now (session .entry)) (now (session .exit)) ⌝ }
+    ensures { λ r. ⌜ MakesKept keptSession (makeRows scheme (length (now (id .entry))) (length (now (credentials .entry))) (length (now (nodes .entry)))) (established scheme number (now (id .entry)) (now (credentials .entry)) (now (nodes .entry))) r (now (session .entry)) (now (session .exit)) ⌝ }
 {
     if session.len() != 178 {
         return 17;
@@ -75,26 +68,26 @@ pub extern "C" fn felica_session_new(
         return made.number as u64;
     }
     store(made.context, session);
-    ffi::pack_all(0, 0, 178, 0)
+    pack::pack_all(0, 0, 178, 0)
 }
 
 // Steps the number.
 #[no_mangle]
 pub extern "C" fn felica_session_increment_transaction_number(session: &mut [u8]) -> u64
-    ensures { λ r. ⌜ Keeps callStep (now (session .entry)) (now (session .exit)) r [] [] ⌝ }
+    ensures { λ r. ⌜ Keeps keptSession callStep (now (session .entry)) (now (session .exit)) r [] [] ⌝ }
 {
     if !is_session(session) {
         return 17;
     }
-    let stepped = context::advance(load(session));
+    let stepped = session::advance(load(session));
     store(stepped.context, session);
-    pack_step(stepped.answer)
+    pack::pack(stepped.answer)
 }
 
 // Sets the number.
 #[no_mangle]
 pub extern "C" fn felica_session_set_transaction_number(session: &mut [u8], number: u16) -> u64
-    ensures { λ r. ⌜ Keeps (callSet number) (now (session .entry)) (now (session .exit)) r [] [] ⌝ }
+    ensures { λ r. ⌜ Keeps keptSession (callSet number) (now (session .entry)) (now (session .exit)) r [] [] ⌝ }
 {
     if !is_session(session) {
         return 17;
@@ -111,12 +104,12 @@ pub extern "C" fn felica_session_encrypt_command(
     payload: &[u8],
     out: &mut [u8],
 ) -> u64
-    ensures { λ r. ⌜ Tells (callSeal code (now (payload .entry)) (length (now (out .entry)))) (now (session .entry)) r (now (out .entry)) (now (out .exit)) ⌝ }
+    ensures { λ r. ⌜ Tells keptSession (callSeal code (now (payload .entry)) (length (now (out .entry)))) (now (session .entry)) r (now (out .entry)) (now (out .exit)) ⌝ }
 {
     if !is_session(session) {
         return 17;
     }
-    ffi::pack(load(session).encrypt_command(code, payload, out))
+    pack::pack(load(session).encrypt_command(code, payload, out))
 }
 
 // Opens a response, and takes its number.
@@ -127,87 +120,82 @@ pub extern "C" fn felica_session_apply_response(
     data: &[u8],
     out: &mut [u8],
 ) -> u64
-    ensures { λ r. ⌜ Keeps (callReceive code (now («data» .entry)) (length (now (out .entry)))) (now (session .entry)) (now (session .exit)) r (now (out .entry)) (now (out .exit)) ⌝ }
+    ensures { λ r. ⌜ Keeps keptSession (callReceive code (now («data» .entry)) (length (now (out .entry)))) (now (session .entry)) (now (session .exit)) r (now (out .entry)) (now (out .exit)) ⌝ }
 {
     if !is_session(session) {
         return 17;
     }
     let received = load(session).apply_response(code, data, out);
     store(received.context, session);
-    ffi::pack_all(
-        received.number,
-        0,
-        received.length,
-        received.transaction_number,
-    )
+    pack::pack(received.answer)
 }
 
 // The first place of a node.
 #[no_mangle]
 pub extern "C" fn felica_session_node_index(session: &[u8], node: u16) -> u64
-    ensures { λ r. ⌜ Tells (callIndex node) (now (session .entry)) r [] [] ⌝ }
+    ensures { λ r. ⌜ Tells keptSession (callIndex node) (now (session .entry)) r [] [] ⌝ }
 {
     if !is_session(session) {
         return 17;
     }
-    ffi::pack_all(0, 0, load(session).node_index(node), 0)
+    pack::pack_all(0, 0, load(session).node_index(node), 0)
 }
 
 // The session's number.
 #[no_mangle]
 pub extern "C" fn felica_session_transaction_number(session: &[u8]) -> u64
-    ensures { λ r. ⌜ Tells callNumber (now (session .entry)) r [] [] ⌝ }
+    ensures { λ r. ⌜ Tells keptSession callNumber (now (session .entry)) r [] [] ⌝ }
 {
     if !is_session(session) {
         return 17;
     }
-    ffi::pack_all(0, 0, 0, load(session).transaction_number())
+    pack::pack_all(0, 0, 0, load(session).transaction_number())
 }
 
 // How many responses were turned away.
 #[no_mangle]
 pub extern "C" fn felica_session_turned_away(session: &[u8]) -> u64
-    ensures { λ r. ⌜ Tells callCount (now (session .entry)) r [] [] ⌝ }
+    ensures { λ r. ⌜ Tells keptSession callCount (now (session .entry)) r [] [] ⌝ }
 {
     if !is_session(session) {
         return 17;
     }
-    ffi::pack_all(0, 0, load(session).turned_away(), 0)
+    pack::pack_all(0, 0, load(session).turned_away(), 0)
 }
 
 // The session's scheme mark.
 #[no_mangle]
 pub extern "C" fn felica_session_scheme(session: &[u8]) -> u64
-    ensures { λ r. ⌜ Tells callScheme (now (session .entry)) r [] [] ⌝ }
+    ensures { λ r. ⌜ Tells keptSession callScheme (now (session .entry)) r [] [] ⌝ }
 {
     if !is_session(session) {
         return 17;
     }
-    ffi::pack_all(0, load(session).scheme(), 0, 0)
+    pack::pack_all(0, load(session).scheme(), 0, 0)
 }
 
 // The session's transaction ID.
 #[no_mangle]
 pub extern "C" fn felica_session_transaction_id(session: &[u8], out: &mut [u8]) -> u64
-    ensures { λ r. ⌜ Tells (callId (length (now (out .entry)))) (now (session .entry)) r (now (out .entry)) (now (out .exit)) ⌝ }
+    ensures { λ r. ⌜ Tells keptSession (callId (length (now (out .entry)))) (now (session .entry)) r (now (out .entry)) (now (out .exit)) ⌝ }
 {
     if !is_session(session) {
         return 17;
     }
     let id = load(session).transaction_id();
-    ffi::pack(answer::delivered(&id, out))
+    pack::pack(answer::deliver(0, &id, out))
 }
 
 // The session's nodes, as bytes.
 #[no_mangle]
 pub extern "C" fn felica_session_nodes(session: &[u8], out: &mut [u8]) -> u64
-    ensures { λ r. ⌜ Tells (callNodes (length (now (out .entry)))) (now (session .entry)) r (now (out .entry)) (now (out .exit)) ⌝ }
+    ensures { λ r. ⌜ Tells keptSession (callNodes (length (now (out .entry)))) (now (session .entry)) r (now (out .entry)) (now (out .exit)) ⌝ }
 {
     if !is_session(session) {
         return 17;
     }
     let kept = load(session);
     let nodes = kept.nodes();
-    let n = context::listed(kept.node_count()) * 2;
-    ffi::pack(answer::delivered(&nodes[0..n], out))
+    let n = session::listed(kept.node_count()) * 2;
+    pack::pack(answer::deliver(0, &nodes[0..n], out))
 }

@@ -4,8 +4,8 @@ use mathlib.Core.Bool.{Bool, true, false}
 use mathlib.Core.List.{List, [], _∷_, _++_, append-nil, append-assoc}
 use Prim.Native.Nat.{ℕ, _+_, _*_, _/_, _%_, _≤_, _<_}
 use native.Mathlib.Omega.{arith}
-use borrow.Author.Tests.{eq-eqb, ne-eqb, eqb-true}
-use lib.Dec.{eqb, ltb, lit≤}
+use borrow.Author.Tests.{eq-eqb, ne-eqb, eqb-true, lt-ltb, ltb-true, ltb-false}
+use lib.Dec.{eqb, ltb, lit≤, lit<}
 use lib.ListN.{length, take, drop, getD, replicate, length-append, length-drop, take-append-drop, drop-of-length-le}
 use lib.Seq.{take-at, drop-at, take-all, getD-drop, drop-drop}
 use Rattle.cipher.specs.Bytes.{Bytes}
@@ -16,8 +16,12 @@ use Rattle.answer.proofs.Elements.{elements, written-out}
 use Rattle.answer.proofs.Outputs.{copied-over}
 use Rattle.answer.proofs.Pieces.{copied-next}
 use Rattle.answer.proofs.Equality.{both-true}
+use Rattle.answer.proofs.Refusals.{Numbered}
+use Rattle.answer.proofs.Rows.{AllFalse, either-false, isnt-false}
 use Rattle.session.specs.Record.{contextOf, encode, decode, isSession}
-use Rattle.session.specs.Session.{withNumber, withCount}
+use Rattle.session.specs.Session.{makeRows, established, withNumber, withCount, more, counting, receiving, received}
+use Rattle.session.specs.History.{Event, next}
+use Rattle.session.proofs.Histories.{next-mark, next-listed}
 use Rattle.session.specs.declared.context.AuthenticatedContext.{AuthenticatedContext}
 
 -- ---- when bytes are a session
@@ -150,3 +154,40 @@ pub counted : (b : List ℕ) (l : length b ≡ 178) (bytes : Bytes b) (v : getD 
 unfolding choose
 counted b l bytes v n true = encode-count b l bytes v n
 counted b l bytes v n false = encode-decode b l bytes v
+
+-- a response that is turned away: of the session's bytes the count's two change, where it is counted, and no other
+pub turned-away-encoded : (b : List ℕ) → Bytes b → isSession b ≡ true → (code room : ℕ) (d : List ℕ) (k : ℕ) → receiving (decode b) code d room .number ≡ k → (k ≡ 0 → ⊥)
+    → encode (received (decode b) (receiving (decode b) code d room)) ≡ choose (both (ltb 9 k) (ltb k 16)) (take 4 b ++ numberBytes (more (decode b .«turned_away»)) ++ drop 6 b) b
+unfolding received counting choose
+turned-away-encoded b bytes y code room d k e n =
+    rw (e, ne-eqb k 0 n) (counted b (session-size b y) bytes (session-version b y) (more (decode b .«turned_away»)) (both (ltb 9 k) (ltb k 16)))
+
+-- ---- what stays a session
+
+-- bytes of the size that start with the encoding of a known mark and of at most 64 nodes
+encoded : (c x : List ℕ) (t : AuthenticatedContext) → length c ≡ 178 → c ≡ encode t ++ x → either (eqb (t .scheme) 1) (eqb (t .scheme) 2) ≡ true → t .«node_count» < 65 → isSession c ≡ true
+unfolding isSession both encode
+encoded c x t l e m n =
+    let k : t .«node_count» % 256 + t .«node_count» / 256 % 256 * 256 < 65 = omega arith in
+    rw (eq-eqb (length c) 178 l) (rw (e, m, lt-ltb (t .«node_count» % 256 + t .«node_count» / 256 % 256 * 256) 65 k))
+
+-- an event leaves a session
+pub session-stays : (b c : List ℕ) (e : Event) → isSession b ≡ true → c ≡ encode (next (decode b) e) → length c ≡ 178 → isSession c ≡ true
+unfolding isSession decode
+session-stays b c e y q l =
+    let t = both-true _ _ (both-true _ _ y .1) .1 in
+    let u = both-true _ _ t in
+    encoded c [] (next (decode b) e) l (q ∙ sym (append-nil (encode (next (decode b) e)))) (rw (next-mark e (decode b)) (u .0)) (rw (next-listed e (decode b)) (ltb-true _ 65 (u .1)))
+
+-- what a making gives
+pub make-rows-numbered : (scheme id credentials listed : ℕ) → Numbered (makeRows scheme id credentials listed)
+unfolding makeRows
+make-rows-numbered scheme id credentials listed = (lit< tt, (lit< tt, tt))
+
+pub made-stays : (scheme number : ℕ) (id credentials listed b x : List ℕ) → AllFalse (makeRows scheme (length id) (length credentials) (length listed)) → b ≡ encode (established scheme number id credentials listed) ++ x
+    → length b ≡ 178 → isSession b ≡ true
+unfolding makeRows established
+made-stays scheme number id credentials listed b x h e l =
+    let known : either (eqb scheme 1) (eqb scheme 2) ≡ true = isnt-false _ (either-false _ _ (h .0) .0) in
+    let few = ltb-false 128 (length listed) (h .1 .0) in
+    encoded b x (established scheme number id credentials listed) l e known (omega arith)

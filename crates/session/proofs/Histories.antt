@@ -136,3 +136,49 @@ never-twice m n s h l e =
     let a : afterSteps m s .«transaction_number» ≡ s .«transaction_number» + m = ap (λ (t : AuthenticatedContext). t .«transaction_number») (after-steps m s (omega arith)) in
     let b : afterSteps n s .«transaction_number» ≡ s .«transaction_number» + n = ap (λ (t : AuthenticatedContext). t .«transaction_number») (after-steps n s l) in
     omega arith
+
+-- ---- what an event leaves as it was
+
+-- what both have, either has
+choose-keeps : {A B : Type 0} (f : A → B) (b : Bool) (x y : A) (z : B) → f x ≡ z → f y ≡ z → f (choose b x y) ≡ z
+unfolding choose
+choose-keeps f true x y z h k = h
+choose-keeps f false x y z h k = k
+
+-- a part of the session that neither a number nor a count changes
+module _ (part : AuthenticatedContext → ℕ) (of-number : (n : ℕ) (s : AuthenticatedContext) → part (withNumber n s) ≡ part s) (of-count : (n : ℕ) (s : AuthenticatedContext) → part (withCount n s) ≡ part s) where
+  next-keeps : (e : Event) (s : AuthenticatedContext) → part (next s e) ≡ part s
+  unfolding next stepped received counting
+  next-keeps step s = choose-keeps (λ (r : Step). part (r .session)) _ _ _ (part s) refl (of-number _ s)
+  next-keeps (setting n) s = of-number n s
+  next-keeps (response code d room) s = choose-keeps part _ _ _ (part s) (of-number _ s) (choose-keeps part _ _ _ (part s) (of-count _ s) refl)
+
+pub next-mark : (e : Event) (s : AuthenticatedContext) → next s e .scheme ≡ s .scheme
+unfolding withNumber withCount
+next-mark e s = next-keeps (λ (t : AuthenticatedContext). t .scheme) (λ n t. refl) (λ n t. refl) e s
+
+pub next-listed : (e : Event) (s : AuthenticatedContext) → next s e .«node_count» ≡ s .«node_count»
+unfolding withNumber withCount
+next-listed e s = next-keeps (λ (t : AuthenticatedContext). t .«node_count») (λ n t. refl) (λ n t. refl) e s
+
+-- ---- the definitions, step by step, for the crates above
+
+pub next-step : (s : AuthenticatedContext) → next s step ≡ stepped s .session
+unfolding next
+next-step s = refl
+
+pub next-setting : (s : AuthenticatedContext) (n : ℕ) → next s (setting n) ≡ withNumber n s
+unfolding next
+next-setting s n = refl
+
+pub next-response : (s : AuthenticatedContext) (code : ℕ) (d : List ℕ) (room : ℕ) → next s (response code d room) ≡ received s (receiving s code d room)
+unfolding next
+next-response s code d room = refl
+
+pub after-nil : (s : AuthenticatedContext) → after s [] ≡ s
+unfolding after
+after-nil s = refl
+
+pub after-cons : (s : AuthenticatedContext) (e : Event) (es : List Event) → after s (e ∷ es) ≡ after (next s e) es
+unfolding after
+after-cons s e es = refl

@@ -104,6 +104,11 @@ module _ (scheme id credentials listed : ℕ) where
       let d = either-false _ _ (c .1) in
       record { six = is-number id 6 (c .0); all = is-number credentials _ (d .0); short = ltb-false 128 listed (a .1 .0) }
 
+-- its rows have numbers
+pub make-numbers : (scheme id credentials listed : ℕ) → numbered (makeRows scheme id credentials listed) ≡ true
+unfolding makeRows numbered both
+make-numbers scheme id credentials listed = refl
+
 -- a mark from 1 to 2 is known, others are not
 pub mark-one-two : (s : ℕ) → 1 ≤ s → s ≤ 2 → either (eqb s 1) (eqb s 2) ≡ true
 unfolding either

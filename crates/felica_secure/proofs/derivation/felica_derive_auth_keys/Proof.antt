@@ -1,4 +1,4 @@
-use Rattle.session.proofs.DerivationSteps.{derives-returns}
+use Rattle.felica_secure.proofs.PackedParts.{derives-returns}
 use borrow.Author.Needs.{needs}
 use Rattle.felica_secure.proofs.derivation.felica_derive_auth_keys.Statement.{statement}
 use Rattle.felica_secure.proofs.derivation.felica_derive_auth_keys.Tie as tie

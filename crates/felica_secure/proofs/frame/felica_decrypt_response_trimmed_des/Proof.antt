@@ -3,8 +3,8 @@ use borrow.Author.Needs.{needs}
 use Rattle.felica_secure.proofs.frame.felica_decrypt_response_trimmed_des.Statement.{statement}
 use Rattle.felica_secure.proofs.frame.felica_decrypt_response_trimmed_des.Tie as tie
 
-open-trimmed-des-requires : tie.Need-open-trimmed-des-requires
-open-trimmed-des-requires c κs = search needs
+decrypt-secure-response-trimmed-des-requires : tie.Need-decrypt-secure-response-trimmed-des-requires
+decrypt-secure-response-trimmed-des-requires c κs = search needs
 
 pack-requires : tie.Need-pack-requires
 pack-requires c κs = search needs
@@ -13,8 +13,8 @@ same-length : tie.Need-same-length
 same-length c = search needs
 
 returns : tie.Need-returns
-returns c = meets-returns _ _ _ _ _ (c .before .before .before .open-trimmed-des .ensures) (c .pack .ensures)
+returns c = meets-returns _ _ _ _ _ (c .before .before .before .decrypt-secure-response-trimmed-des .ensures) (c .pack .ensures)
 
 pub felica-decrypt-response-trimmed-des-spec : {M : Type 1} → statement M
 felica-decrypt-response-trimmed-des-spec =
-    tie.close (tie.spec open-trimmed-des-requires pack-requires same-length returns)
+    tie.close (tie.spec decrypt-secure-response-trimmed-des-requires pack-requires same-length returns)

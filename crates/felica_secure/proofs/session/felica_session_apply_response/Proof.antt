@@ -1,7 +1,9 @@
 use borrow.Author.Tests.{not-true, not-false}
 use mathlib.Core.Path.{refl, sym, _∙_}
-use Rattle.session.proofs.Encoding.{session-size, no-keeps, keeps}
-use Rattle.session.specs.Record.{callReceive, answering}
+use Rattle.session.proofs.Encoding.{session-size}
+use Rattle.felica_secure.proofs.KeptStates.{no-keeps, keeps}
+use Rattle.felica_secure.specs.Calls.{answering}
+use Rattle.felica_secure.specs.SessionCalls.{keptSession, callReceive}
 use lib.ListN.{length}
 use borrow.Author.Needs.{needs}
 use Rattle.felica_secure.proofs.session.felica_session_apply_response.Statement.{statement}
@@ -14,7 +16,7 @@ same-length : tie.Need-same-length
 same-length c = search needs
 
 returns : tie.Need-returns
-returns c = no-keeps _ _ _ (sym (c .before .is-session .ensures) ∙ not-true _ (c .if1 .taken)) refl _
+returns c = no-keeps keptSession _ _ _ (sym (c .before .is-session .ensures) ∙ not-true _ (c .if1 .taken)) refl _
 
 load-requires : tie.Need-load-requires
 load-requires c κs = session-size _ (sym (c .before .before .is-session .ensures) ∙ not-false _ (c .before .if1 .left))
@@ -27,8 +29,8 @@ store-requires c κs =
     let i = c .before .before .before .before .before .before .before in
     session-size _ (sym (i .before .is-session .ensures) ∙ not-false _ (i .if1 .left))
 
-pack-all-requires : tie.Need-pack-all-requires
-pack-all-requires c κs = search needs
+pack-requires : tie.Need-pack-requires
+pack-requires c κs = search needs
 
 same-length-2 : tie.Need-same-length-2
 same-length-2 c = search needs
@@ -44,9 +46,10 @@ returns-2 c =
     let ld = e .before .before in
     let i = ld .before .before in
     let a = i .before .before .before .before .before .before .args in
-    let m = e .apply-response .ensures in
-    keeps (callReceive (a .code) (a .«data» .now) (length (a .out .now))) _ _ (sym (i .before .is-session .ensures) ∙ not-false _ (i .if1 .left)) (ld .load .result) (ld .load .ensures) (a .out .now) _
-    (c .pack-all .ensures ∙ rw (m .number, m .length-is, m .transaction)) (m .output) _ _ (m .session) (sto .store .ensures)
+    let r = e .apply-response .ensures in
+    let m = r .answer in
+    keeps keptSession (callReceive (a .code) (a .«data» .now) (length (a .out .now))) _ _ (sym (i .before .is-session .ensures) ∙ not-false _ (i .if1 .left)) (ld .load .result) (ld .load .ensures) (a .out .now) _
+    (c .pack .ensures ∙ rw (m .number, m .length-is, m .transaction)) (m .output) _ _ (r .session) (sto .store .ensures)
 
 pub felica-session-apply-response-spec : {M : Type 1} → statement M
 felica-session-apply-response-spec =
@@ -58,7 +61,7 @@ felica-session-apply-response-spec =
     load-requires
     apply-response-requires
     store-requires
-    pack-all-requires
+    pack-requires
     same-length-2
     same-length-3
     returns-2)

@@ -1,8 +1,10 @@
 use borrow.Author.Tests.{not-true, not-false}
 use lib.ListN.{length}
 use mathlib.Core.Path.{refl, sym, _∙_}
-use Rattle.session.proofs.Encoding.{session-size, no-tells, tells}
-use Rattle.session.specs.Record.{callSeal, answering}
+use Rattle.session.proofs.Encoding.{session-size}
+use Rattle.felica_secure.proofs.KeptStates.{no-tells, tells}
+use Rattle.felica_secure.specs.Calls.{answering}
+use Rattle.felica_secure.specs.SessionCalls.{keptSession, callSeal}
 use borrow.Author.Needs.{needs}
 use Rattle.felica_secure.proofs.session.felica_session_encrypt_command.Statement.{statement}
 use Rattle.felica_secure.proofs.session.felica_session_encrypt_command.Tie as tie
@@ -11,7 +13,7 @@ is-session-requires : tie.Need-is-session-requires
 is-session-requires c κs = search needs
 
 returns : tie.Need-returns
-returns c = no-tells _ _ _ (sym (c .before .is-session .ensures) ∙ not-true _ (c .if1 .taken)) refl _
+returns c = no-tells keptSession _ _ _ (sym (c .before .is-session .ensures) ∙ not-true _ (c .if1 .taken)) refl _
 
 load-requires : tie.Need-load-requires
 load-requires c κs = session-size _ (sym (c .before .is-session .ensures) ∙ not-false _ (c .if1 .left))
@@ -33,7 +35,7 @@ returns-2 c =
     let i = ld .before in
     let a = i .before .before .before .before .before .args in
     let m = e .encrypt-command .ensures in
-    tells (callSeal (a .code) (a .payload .now) (length (a .out .now))) _ _ (sym (i .before .is-session .ensures) ∙ not-false _ (i .if1 .left)) (ld .load .result) (ld .load .ensures) (a .out .now) _
+    tells keptSession (callSeal (a .code) (a .payload .now) (length (a .out .now))) _ _ (sym (i .before .is-session .ensures) ∙ not-false _ (i .if1 .left)) (ld .load .result) (ld .load .ensures) (a .out .now) _
     (c .pack .ensures ∙ rw (m .number, m .length-is, m .transaction)) (m .output)
 
 pub felica-session-encrypt-command-spec : {M : Type 1} → statement M

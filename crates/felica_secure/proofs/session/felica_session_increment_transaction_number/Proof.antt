@@ -2,8 +2,9 @@ use borrow.Author.Tests.{not-true, not-false}
 use mathlib.Core.Path.{refl, sym, _∙_}
 use mathlib.Core.List.{[]}
 use Rattle.answer.specs.Outcome.{over}
-use Rattle.session.proofs.Encoding.{session-size, no-keeps, keeps}
-use Rattle.session.specs.Record.{callStep}
+use Rattle.session.proofs.Encoding.{session-size}
+use Rattle.felica_secure.proofs.KeptStates.{no-keeps, keeps}
+use Rattle.felica_secure.specs.SessionCalls.{keptSession, callStep}
 use borrow.Author.Needs.{needs}
 use Rattle.felica_secure.proofs.session.felica_session_increment_transaction_number.Statement.{statement}
 use Rattle.felica_secure.proofs.session.felica_session_increment_transaction_number.Tie as tie
@@ -15,7 +16,7 @@ same-length : tie.Need-same-length
 same-length c = search needs
 
 returns : tie.Need-returns
-returns c = no-keeps callStep _ _ (sym (c .before .is-session .ensures) ∙ not-true _ (c .if1 .taken)) refl []
+returns c = no-keeps keptSession callStep _ _ (sym (c .before .is-session .ensures) ∙ not-true _ (c .if1 .taken)) refl []
 
 load-requires : tie.Need-load-requires
 load-requires c κs = session-size _ (sym (c .before .before .is-session .ensures) ∙ not-false _ (c .before .if1 .left))
@@ -28,8 +29,8 @@ store-requires c κs =
     let i = c .before .before .before .before in
     session-size _ (sym (i .before .is-session .ensures) ∙ not-false _ (i .if1 .left))
 
-pack-step-requires : tie.Need-pack-step-requires
-pack-step-requires c κs = search needs
+pack-requires : tie.Need-pack-requires
+pack-requires c κs = search needs
 
 same-length-2 : tie.Need-same-length-2
 same-length-2 c = search needs
@@ -42,7 +43,7 @@ returns-2 c =
     let ld = n .before in
     let i = ld .before .before in
     let m = n .advance .ensures in
-    keeps callStep _ _ (sym (i .before .is-session .ensures) ∙ not-false _ (i .if1 .left)) (ld .load .result) (ld .load .ensures) [] [] (c .pack-step .ensures ∙ rw (m .number, m .transaction)) refl
+    keeps keptSession callStep _ _ (sym (i .before .is-session .ensures) ∙ not-false _ (i .if1 .left)) (ld .load .result) (ld .load .ensures) [] [] (c .pack .ensures ∙ rw (m .number, m .length-none, m .transaction)) refl
     _ _ (m .session) (sto .store .ensures)
 
 pub felica-session-increment-transaction-number-spec : {M : Type 1} → statement M
@@ -55,6 +56,6 @@ felica-session-increment-transaction-number-spec =
     load-requires
     advance-requires
     store-requires
-    pack-step-requires
+    pack-requires
     same-length-2
     returns-2)

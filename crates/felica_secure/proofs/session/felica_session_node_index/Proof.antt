@@ -2,8 +2,10 @@ use borrow.Author.Tests.{not-true, not-false}
 use mathlib.Core.Path.{refl, sym, _∙_}
 use mathlib.Core.List.{[]}
 use Rattle.answer.specs.Outcome.{over}
-use Rattle.session.proofs.Encoding.{session-size, no-tells, tells}
-use Rattle.session.specs.Record.{callIndex, telling}
+use Rattle.session.proofs.Encoding.{session-size}
+use Rattle.felica_secure.proofs.KeptStates.{no-tells, tells}
+use Rattle.felica_secure.specs.Calls.{telling}
+use Rattle.felica_secure.specs.SessionCalls.{keptSession, callIndex}
 use borrow.Author.Needs.{needs}
 use Rattle.felica_secure.proofs.session.felica_session_node_index.Statement.{statement}
 use Rattle.felica_secure.proofs.session.felica_session_node_index.Tie as tie
@@ -12,7 +14,7 @@ is-session-requires : tie.Need-is-session-requires
 is-session-requires c κs = search needs
 
 returns : tie.Need-returns
-returns c = no-tells (callIndex (c .before .before .before .args .node)) _ _ (sym (c .before .is-session .ensures) ∙ not-true _ (c .if1 .taken)) refl []
+returns c = no-tells keptSession (callIndex (c .before .before .before .args .node)) _ _ (sym (c .before .is-session .ensures) ∙ not-true _ (c .if1 .taken)) refl []
 
 load-requires : tie.Need-load-requires
 load-requires c κs = session-size _ (sym (c .before .is-session .ensures) ∙ not-false _ (c .if1 .left))
@@ -29,7 +31,7 @@ returns-2 c =
     let v = c .before in
     let ld = v .before in
     let i = ld .before in
-    tells (callIndex (i .before .before .before .args .node)) _ _ (sym (i .before .is-session .ensures) ∙ not-false _ (i .if1 .left)) (ld .load .result) (ld .load .ensures) [] [] (c .pack-all .ensures ∙ rw (v .node-index .ensures)) refl
+    tells keptSession (callIndex (i .before .before .before .args .node)) _ _ (sym (i .before .is-session .ensures) ∙ not-false _ (i .if1 .left)) (ld .load .result) (ld .load .ensures) [] [] (c .pack-all .ensures ∙ rw (v .node-index .ensures)) refl
 
 pub felica-session-node-index-spec : {M : Type 1} → statement M
 felica-session-node-index-spec =

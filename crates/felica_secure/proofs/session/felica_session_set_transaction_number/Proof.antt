@@ -2,8 +2,10 @@ use borrow.Author.Tests.{not-true, not-false}
 use mathlib.Core.Path.{refl, sym, _∙_}
 use mathlib.Core.List.{[]}
 use Rattle.answer.specs.Outcome.{over}
-use Rattle.session.proofs.Encoding.{session-size, no-keeps, keeps}
-use Rattle.session.specs.Record.{callSet, telling}
+use Rattle.session.proofs.Encoding.{session-size}
+use Rattle.felica_secure.proofs.KeptStates.{no-keeps, keeps}
+use Rattle.felica_secure.specs.Calls.{telling}
+use Rattle.felica_secure.specs.SessionCalls.{keptSession, callSet}
 use Rattle.felica_secure.specs.Packed.{packed}
 use borrow.Author.Needs.{needs}
 use Rattle.felica_secure.proofs.session.felica_session_set_transaction_number.Statement.{statement}
@@ -16,7 +18,7 @@ same-length : tie.Need-same-length
 same-length c = search needs
 
 returns : tie.Need-returns
-returns c = no-keeps (callSet (c .before .before .before .before .args .number)) _ _ (sym (c .before .is-session .ensures) ∙ not-true _ (c .if1 .taken)) refl []
+returns c = no-keeps keptSession (callSet (c .before .before .before .before .args .number)) _ _ (sym (c .before .is-session .ensures) ∙ not-true _ (c .if1 .taken)) refl []
 
 load-requires : tie.Need-load-requires
 load-requires c κs = session-size _ (sym (c .before .before .is-session .ensures) ∙ not-false _ (c .before .if1 .left))
@@ -40,7 +42,7 @@ returns-2 c =
     let ld = n .before in
     let i = ld .before .before in
     let a = i .before .before .before .before .args in
-    keeps (callSet (a .number)) _ _ (sym (i .before .is-session .ensures) ∙ not-false _ (i .if1 .left)) (ld .load .result) (ld .load .ensures) [] [] refl refl
+    keeps keptSession (callSet (a .number)) _ _ (sym (i .before .is-session .ensures) ∙ not-false _ (i .if1 .left)) (ld .load .result) (ld .load .ensures) [] [] refl refl
     _ _ (n .with-transaction-number .ensures) (sto .store .ensures)
 
 pub felica-session-set-transaction-number-spec : {M : Type 1} → statement M

@@ -1,7 +1,10 @@
 use borrow.Author.Tests.{not-true, not-false}
 use mathlib.Core.Path.{refl, sym, _∙_}
-use Rattle.session.proofs.Encoding.{session-size, no-tells, tells}
-use Rattle.session.specs.Record.{callId, handing, answering}
+use Rattle.session.proofs.Encoding.{session-size}
+use Rattle.felica_secure.proofs.KeptStates.{no-tells, tells}
+use Rattle.felica_secure.specs.Calls.{answering}
+use Rattle.felica_secure.specs.SessionCalls.{keptSession, callId}
+use native.Mathlib.Omega.{arith}
 use lib.ListN.{length}
 use borrow.Author.Needs.{needs}
 use Rattle.felica_secure.proofs.session.felica_session_transaction_id.Statement.{statement}
@@ -11,7 +14,7 @@ is-session-requires : tie.Need-is-session-requires
 is-session-requires c κs = search needs
 
 returns : tie.Need-returns
-returns c = no-tells _ _ _ (sym (c .before .is-session .ensures) ∙ not-true _ (c .if1 .taken)) refl _
+returns c = no-tells keptSession _ _ _ (sym (c .before .is-session .ensures) ∙ not-true _ (c .if1 .taken)) refl _
 
 load-requires : tie.Need-load-requires
 load-requires c κs = session-size _ (sym (c .before .is-session .ensures) ∙ not-false _ (c .if1 .left))
@@ -19,11 +22,11 @@ load-requires c κs = session-size _ (sym (c .before .is-session .ensures) ∙ n
 transaction-id-requires : tie.Need-transaction-id-requires
 transaction-id-requires c κs = search needs
 
-slice-aggregate-delivered : tie.Need-slice-aggregate-delivered
-slice-aggregate-delivered c = search needs
+slice-aggregate-deliver : tie.Need-slice-aggregate-deliver
+slice-aggregate-deliver c = search needs
 
-delivered-requires : tie.Need-delivered-requires
-delivered-requires c κs = search needs
+deliver-requires : tie.Need-deliver-requires
+deliver-requires c κs = search needs
 
 pack-requires : tie.Need-pack-requires
 pack-requires c κs = search needs
@@ -32,15 +35,15 @@ same-length : tie.Need-same-length
 same-length c = search needs
 
 returns-2 : tie.Need-returns-2
-unfolding callId handing answering
+unfolding callId answering
 returns-2 c =
     let e = c .before .before .before in
     let t = e .before .before .before in
     let ld = t .before in
     let i = ld .before in
     let a = i .before .before .before .before .args in
-    let m = rw (t .transaction-id .ensures) at (e .delivered .ensures) in
-    tells (callId (length (a .out .now))) _ _ (sym (i .before .is-session .ensures) ∙ not-false _ (i .if1 .left)) (ld .load .result) (ld .load .ensures) (a .out .now) _
+    let m = rw (t .transaction-id .ensures) at (e .deliver .ensures (omega arith)) in
+    tells keptSession (callId (length (a .out .now))) _ _ (sym (i .before .is-session .ensures) ∙ not-false _ (i .if1 .left)) (ld .load .result) (ld .load .ensures) (a .out .now) _
     (c .pack .ensures ∙ rw (m .number, m .length-is, m .transaction)) (m .output)
 
 pub felica-session-transaction-id-spec : {M : Type 1} → statement M
@@ -51,8 +54,8 @@ felica-session-transaction-id-spec =
     returns
     load-requires
     transaction-id-requires
-    slice-aggregate-delivered
-    delivered-requires
+    slice-aggregate-deliver
+    deliver-requires
     pack-requires
     same-length
     returns-2)

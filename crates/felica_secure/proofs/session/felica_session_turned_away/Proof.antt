@@ -2,8 +2,10 @@ use borrow.Author.Tests.{not-true, not-false}
 use mathlib.Core.Path.{refl, sym, _∙_}
 use mathlib.Core.List.{[]}
 use Rattle.answer.specs.Outcome.{over}
-use Rattle.session.proofs.Encoding.{session-size, no-tells, tells}
-use Rattle.session.specs.Record.{callCount, telling}
+use Rattle.session.proofs.Encoding.{session-size}
+use Rattle.felica_secure.proofs.KeptStates.{no-tells, tells}
+use Rattle.felica_secure.specs.Calls.{telling}
+use Rattle.felica_secure.specs.SessionCalls.{keptSession, callCount}
 use borrow.Author.Needs.{needs}
 use Rattle.felica_secure.proofs.session.felica_session_turned_away.Statement.{statement}
 use Rattle.felica_secure.proofs.session.felica_session_turned_away.Tie as tie
@@ -12,7 +14,7 @@ is-session-requires : tie.Need-is-session-requires
 is-session-requires c κs = search needs
 
 returns : tie.Need-returns
-returns c = no-tells callCount _ _ (sym (c .before .is-session .ensures) ∙ not-true _ (c .if1 .taken)) refl []
+returns c = no-tells keptSession callCount _ _ (sym (c .before .is-session .ensures) ∙ not-true _ (c .if1 .taken)) refl []
 
 load-requires : tie.Need-load-requires
 load-requires c κs = session-size _ (sym (c .before .is-session .ensures) ∙ not-false _ (c .if1 .left))
@@ -29,7 +31,7 @@ returns-2 c =
     let v = c .before in
     let ld = v .before in
     let i = ld .before in
-    tells callCount _ _ (sym (i .before .is-session .ensures) ∙ not-false _ (i .if1 .left)) (ld .load .result) (ld .load .ensures) [] [] (c .pack-all .ensures ∙ rw (v .turned-away .ensures)) refl
+    tells keptSession callCount _ _ (sym (i .before .is-session .ensures) ∙ not-false _ (i .if1 .left)) (ld .load .result) (ld .load .ensures) [] [] (c .pack-all .ensures ∙ rw (v .turned-away .ensures)) refl
 
 pub felica-session-turned-away-spec : {M : Type 1} → statement M
 felica-session-turned-away-spec =
