@@ -22,7 +22,7 @@ use Rattle.answer.proofs.Refusals.{accepted-zero}
 use Rattle.frame.proofs.Schemes.{longest-is-des, longest-is-aes}
 use Rattle.agreement.specs.Agreement.{Sealable, Opened}
 use Rattle.session.specs.Challenge.{blockSize, unknownScheme, wrong, wrongWith3C, underAlpha, underBeta, making1A, reading1A, making1B, checking1B, making2A, reading2A, making2B, checking2B}
-use Rattle.agreement.proofs.Exchanges as two
+use Rattle.session.proofs.Exchanges as two
 use Rattle.session.proofs.SessionSteps.{choose-most}
 
 -- an outcome that is an acceptance, written over a buffer: its bytes are the front

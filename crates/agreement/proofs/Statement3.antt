@@ -18,7 +18,7 @@ use Rattle.agreement.specs.Agreement.{Fits, Fixed, Inputs, made1A, read1
 use Rattle.session.specs.Challenge.{blockSize, underAlpha, underBeta, checking1B, checking2B, sessionKeys, derivingSessionKeys}
 use Rattle.session.specs.Derivation.{Derived, derivation}
 use Rattle.session.proofs.AcceptedDerivation.{Given, derivation-gives}
-use Rattle.agreement.proofs.Exchanges as two
+use Rattle.session.proofs.Exchanges as two
 
 -- the number of an acceptance
 zero-of : (o : Outcome) (b : List ℕ) → o ≡ accepted 0 b → o .number ≡ 0

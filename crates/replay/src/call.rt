@@ -3,7 +3,7 @@ use crate::challenge;
 use crate::derive;
 use crate::sealed;
 use crate::steps;
-use frame::Answer;
+use answer::Answer;
 
 // What a case asks for. What has a scheme is asked by scheme, and of the scheme's own operation alone.
 pub(crate) enum Kind {

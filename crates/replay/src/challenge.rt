@@ -1,6 +1,6 @@
 // Challenges and the AES session keys: a line's inputs, and the call.
 use crate::field;
-use frame::Answer;
+use answer::Answer;
 
 // Which challenge a line is about, by its field 1.
 enum Which {

@@ -1,8 +1,8 @@
 // The session's corners, from document 01: rows 9 to 16 of its steps, the count and the number after each.
 use crate::note;
+use answer::Answer;
 use session::AuthenticatedContext;
 use session::Received;
-use session::StepAnswer;
 use textfile::Tally;
 ghost use Prim.Native.Nat.{_≤_};
 ghost use lib.ListN.{length};
@@ -99,14 +99,14 @@ fn is_left(context: AuthenticatedContext, number: u16, count: u16) -> bool {
 
 // Whether a response step gave this answer, and left the session with this number and count.
 fn is_received(received: Received, answer: u8, number: u16, count: u16) -> bool {
-    if received.number != answer {
+    if received.answer.number != answer {
         return false;
     }
     let accepted = answer == 0;
-    if received.length != (if accepted { 8 } else { 0 }) {
+    if received.answer.length != (if accepted { 8 } else { 0 }) {
         return false;
     }
-    if received.transaction_number != (if accepted { number } else { 0 }) {
+    if received.answer.transaction_number != (if accepted { number } else { 0 }) {
         return false;
     }
     let context = received.context;
@@ -135,7 +135,7 @@ fn step(run: Run, answer: u8, number: u16) -> Run {
     noted(run, after, is_both(right, is_left(after, number, 0)))
 }
 
-fn is_step(given: StepAnswer, answer: u8, value: u16) -> bool {
+fn is_step(given: Answer, answer: u8, value: u16) -> bool {
     is_both(given.number == answer, given.transaction_number == value)
 }
 

@@ -22,8 +22,8 @@ pub(crate) fn keys(line: &[u8], out: &mut [u8]) -> Given {
         out,
     );
     Given {
-        number: derived.number,
-        length: derived.length,
+        number: derived.answer.number,
+        length: derived.answer.length,
         scheme: derived.scheme,
         value: derived.node,
     }

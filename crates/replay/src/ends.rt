@@ -1,6 +1,6 @@
 // A reader and a card with the same keys, through every call: each answers 0, and both get the same.
 use crate::note;
-use frame::Answer;
+use answer::Answer;
 use session::DerivedAuthKeys;
 use textfile::Tally;
 ghost use Prim.Native.Nat.{_≤_};
@@ -86,7 +86,7 @@ fn talk(so_far: Tally, scheme: u8, reader: &[u8], card: &[u8]) -> Tally {
 }
 
 fn is_derived(derived: DerivedAuthKeys, scheme: u8, n: usize) -> bool {
-    if derived.number != 0 {
+    if derived.answer.number != 0 {
         return false;
     }
     if derived.node != 0 {
@@ -95,7 +95,7 @@ fn is_derived(derived: DerivedAuthKeys, scheme: u8, n: usize) -> bool {
     if derived.scheme != scheme {
         return false;
     }
-    derived.length as usize == n
+    derived.answer.length as usize == n
 }
 
 // 1A from the reader, 1B from the card: five checks.

@@ -1,7 +1,7 @@
 // The operations of `frame`: a line's inputs, and the call.
 use crate::call::Kind;
 use crate::field;
-use frame::Answer;
+use answer::Answer;
 
 // The numbers among the inputs.
 struct Asked {
@@ -109,9 +109,16 @@ fn seal_alone(
     out: &mut [u8],
 ) -> Answer {
     if asked.scheme == 1 {
-        frame::seal_des(asked.code, asked.number, id, credentials, payload, out)
+        frame::encrypt_secure_request_des(asked.code, asked.number, id, credentials, payload, out)
     } else {
-        frame::seal_aes(asked.code, asked.number, id, credentials, payload, out)
+        frame::encrypt_secure_request_v2_aes128(
+            asked.code,
+            asked.number,
+            id,
+            credentials,
+            payload,
+            out,
+        )
     }
 }
 
@@ -133,8 +140,8 @@ fn respond_alone(
 
 fn open_alone(asked: Asked, id: &[u8], credentials: &[u8], data: &[u8], out: &mut [u8]) -> Answer {
     if asked.scheme == 1 {
-        frame::open_des(asked.code, id, credentials, data, out)
+        frame::decrypt_secure_response_des(asked.code, id, credentials, data, out)
     } else {
-        frame::open_aes(asked.code, id, credentials, data, out)
+        frame::decrypt_secure_response_v2_aes128(asked.code, id, credentials, data, out)
     }
 }

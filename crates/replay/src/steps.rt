@@ -2,10 +2,10 @@
 use crate::call;
 use crate::call::Given;
 use crate::field;
+use answer::Answer;
 use session::AuthenticatedContext;
 use session::Made;
 use session::Received;
-use session::StepAnswer;
 
 // What no operation answers: the session after a call is not what the answer says.
 const WRONG: u8 = 255;
@@ -29,7 +29,7 @@ pub(crate) fn step(line: &[u8]) -> Given {
 }
 
 // What a step answers, if the session is as it has to be after it.
-fn told(answer: StepAnswer, before: u16, after: AuthenticatedContext) -> Given {
+fn told(answer: Answer, before: u16, after: AuthenticatedContext) -> Given {
     let value = answer.transaction_number;
     if is_after(answer.number, before, value, after) {
         return call::said(answer.number, value);
@@ -84,13 +84,13 @@ pub(crate) fn apply(line: &[u8], out: &mut [u8]) -> Given {
 
 fn received_as(before: u16, received: Received) -> Given {
     let after = received.context;
-    let value = received.transaction_number;
-    if !is_after(received.number, before, value, after) {
+    let value = received.answer.transaction_number;
+    if !is_after(received.answer.number, before, value, after) {
         return call::said(WRONG, value);
     }
     Given {
-        number: received.number,
-        length: received.length,
+        number: received.answer.number,
+        length: received.answer.length,
         scheme: 0,
         value,
     }

@@ -2,10 +2,12 @@ pub mod AcceptedDerivation
 pub mod Challenges
 pub mod DerivationSteps
 pub mod Encoding
+pub mod Exchanges
 pub mod Gathering
 pub mod Histories
 pub mod KeySearch
 pub mod LentSession
 pub mod NodeLists
 pub mod Nodes
+pub mod SeenKeys
 pub mod SessionSteps
