@@ -1,8 +1,9 @@
 #include "parts.h"
 
 #include "call.h"
-#include "chains.h"
 #include "check.h"
+#include "layout.h"
+#include "model_derivation.h"
 
 #include "../../include/felica_secure.h"
 
@@ -63,7 +64,7 @@ static struct call at_end(const struct ends *e, enum operation operation, const 
     c.credentials = text_of(keys, derived_size(e->scheme));
     c.id = e->idm;
     c.data = text_of(block, block_size(e->scheme));
-    if (operation == MAKE_1B || operation == CHECK_1B || operation == MAKE_2A || operation == READ_2A) {
+    if (takes(operation, IN_THIRD)) {
         c.challenge_3c = e->challenge_3c;
     }
     return c;

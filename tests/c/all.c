@@ -1,6 +1,5 @@
 #include "parts.h"
 
-#include "blocks.h"
 #include "call.h"
 #include "check.h"
 
@@ -8,29 +7,11 @@
 
 int all_parts(int files, char **paths)
 {
-    unsigned long cases;
-    int i;
-
     watch_faults();
-    orders();
-    fixed();
-    blocks();
-    derivations();
-    challenges();
-    for (i = 0; i < files; i++) {
-        stored(paths[i]);
-    }
-    cases = stored_all_seen();
-    huge();
-    forecasts();
-    trims();
-    trips();
-    agreements();
-    damages();
-    lengths();
-    crossings();
-    sessions();
-    histories();
-    printf("%lu calls, %lu stored answers\n", calls(), cases);
+    stored_files(files, paths);
+#define PART(name) name();
+    PARTS(PART)
+#undef PART
+    printf("%lu calls, %lu stored answers\n", calls(), stored_cases());
     return 0;
 }

@@ -13,7 +13,4 @@ void des_back(const uint8_t *key, const uint8_t *block, uint8_t *to);
 // Encrypt, decrypt, encrypt under K1, K2, K1.
 void tdes(const uint8_t *key1, const uint8_t *key2, const uint8_t *block, uint8_t *to);
 
-// Fails unless they give published vectors, and DES what the library's registration packages have.
-void blocks(void);
-
 #endif

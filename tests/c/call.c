@@ -1,107 +1,59 @@
 #include "call.h"
 
 #include "check.h"
-#include "fence.h"
+#include "layout.h"
+#include "parts.h"
 
 #include "../../include/felica_secure.h"
 
 #include <stdio.h>
 #include <string.h>
 
-// How far around the output its surroundings are watched.
-#define AROUND 64
-
-static const char *const names[OPERATIONS] = {
-    "felica_encrypt_command",
-    "felica_build_secure_response_frame",
-    "felica_decrypt_response",
-    "felica_decrypt_response_trimmed_des",
-    "felica_encrypt_authentication2_payload_des",
-    "felica_decrypt_authentication2_payload_des",
-    "felica_decrypt_authentication2_payload_v2_aes128",
-    "felica_generate_registration_package_des",
-    "felica_derive_auth_keys",
-    "felica_encrypt_challenge1a",
-    "felica_decrypt_challenge1a",
-    "felica_encrypt_challenge1b",
-    "felica_verify_challenge1b",
-    "felica_encrypt_challenge2a",
-    "felica_decrypt_challenge2a",
-    "felica_encrypt_challenge2b",
-    "felica_verify_challenge2b",
-    "felica_derive_secure_session_keys",
-    "felica_session_new",
-    "felica_session_increment_transaction_number",
-    "felica_session_set_transaction_number",
-    "felica_session_encrypt_command",
-    "felica_session_apply_response",
-    "felica_session_node_index",
-    "felica_session_transaction_number",
-    "felica_session_turned_away",
-    "felica_session_scheme",
-    "felica_session_transaction_id",
-    "felica_session_nodes",
-};
-
 static const char *const places[PLACES] = {"in the middle", "at the start", "at the end", "NULL if empty"};
 
-// The numbers that each operation can give, by docs/NUMBERS.md, as bits.
-#define N(k) (1ul << (k))
-static const unsigned long numbers[OPERATIONS] = {
-    N(0) | N(17) | N(12) | N(16),
-    N(0) | N(17) | N(12) | N(16),
-    N(0) | N(17) | N(10) | N(11) | N(12) | N(13) | N(14) | N(16),
-    N(0) | N(17) | N(10) | N(11) | N(12) | N(13) | N(14) | N(16),
-    N(0) | N(17) | N(12) | N(16),
-    N(0) | N(17) | N(10) | N(12) | N(13) | N(16),
-    N(0) | N(17) | N(11) | N(12) | N(13) | N(16),
-    N(0) | N(17) | N(10) | N(12) | N(16),
-    N(0) | N(17) | N(1) | N(2) | N(3) | N(4) | N(5) | N(6) | N(7) | N(8) | N(16),
-    N(0) | N(17) | N(16),
-    N(0) | N(17) | N(16),
-    N(0) | N(17) | N(16),
-    N(0) | N(17) | N(13),
-    N(0) | N(17) | N(16),
-    N(0) | N(17) | N(16),
-    N(0) | N(17) | N(16),
-    N(0) | N(17) | N(13),
-    N(0) | N(17) | N(16),
-    N(0) | N(17) | N(1),
-    N(0) | N(17) | N(9),
-    N(0) | N(17),
-    N(0) | N(17) | N(12) | N(16),
-    N(0) | N(17) | N(10) | N(11) | N(12) | N(13) | N(14) | N(15) | N(16),
-    N(0) | N(17),
-    N(0) | N(17),
-    N(0) | N(17),
-    N(0) | N(17),
-    N(0) | N(17) | N(16),
-    N(0) | N(17) | N(16),
-};
-
-// Bits 16 to 31 of the others' answers are no bytes that were written.
-static size_t written_by(enum operation operation, uint64_t answer)
+static struct given given_of(const struct call *c)
 {
-    return operation == INDEX || operation == TELL_COUNT ? 0 : felica_answer_length(answer);
+    struct given g = {c->operation, c->scheme, c->code, c->number, {{NULL, 0}}};
+
+    g.in[IN_ID] = c->id;
+    g.in[IN_KEYS] = c->credentials;
+    g.in[IN_DATA] = c->data;
+    g.in[IN_THIRD] = c->challenge_3c;
+    g.in[IN_CHECKED] = c->checked;
+    g.in[IN_AREAS] = c->areas;
+    g.in[IN_SERVICES] = c->services;
+    g.in[IN_INDIVIDUAL] = c->individual;
+    g.in[IN_NODES] = c->nodes;
+    g.in[IN_SESSION] = c->session;
+    return g;
 }
 
-// The inputs of a call.
-#define INPUTS 9
-static struct text input_of(const struct call *c, int which)
+struct call call_of(enum operation operation, unsigned scheme, unsigned seed, struct text data)
 {
-    const struct text all[INPUTS] = {c->id,    c->credentials, c->data,       c->challenge_3c, c->checked,
-                                     c->areas, c->services,    c->individual, c->nodes};
+    struct call c;
 
-    return all[which];
+    memset(&c, 0, sizeof c);
+    c.operation = operation;
+    c.scheme = (uint8_t)scheme;
+    c.code = (uint8_t)(seed * 37);
+    c.number = (uint16_t)(seed * 40503);
+    c.id = sample(seed + 20000, 6);
+    c.credentials = sample(seed + 30000, credentials_size(scheme));
+    c.data = data;
+    return c;
 }
+
+// ---- the last call
 
 static unsigned long count;
+// Which numbers each operation gave, as bits.
+static unsigned long given_numbers[OPERATIONS];
 // The last call; its bytes may be gone.
 static struct call last;
 static unsigned last_first;
 static size_t last_room;
 static enum place last_place;
-static uint64_t last_answer;
+static struct passed last_passed;
 
 unsigned long calls(void)
 {
@@ -113,159 +65,23 @@ void describe_call(char *to, size_t n)
     snprintf(to, n,
              "call %lu: %s scheme %u code %u number %u ID %zu credentials %zu data %zu (starts %02x) 3C %zu checked %zu areas %zu "
              "services %zu individual %zu nodes %zu session %zu output %zu, buffers %s: %016llx",
-             count, names[last.operation], last.scheme, last.code, last.number, last.id.n, last.credentials.n, last.data.n, last_first,
+             count, name_of(last.operation), last.scheme, last.code, last.number, last.id.n, last.credentials.n, last.data.n, last_first,
              last.challenge_3c.n, last.checked.n, last.areas.n, last.services.n, last.individual.n, last.nodes.n, last.session.n, last_room,
-             places[last_place], (unsigned long long)last_answer);
+             places[last_place], (unsigned long long)last_passed.answer);
 }
 
-// The inputs as they stand for this call, in the order of input_of.
-static uint64_t invoke_challenge(const struct call *c, uint8_t *const *in, uint8_t *out, size_t room)
+void all_called(void)
 {
-    const uint8_t *id = in[0], *keys = in[1], *data = in[2], *third = in[3], *checked = in[4];
-    size_t id_n = c->id.n, key_n = c->credentials.n, n = c->data.n, third_n = c->challenge_3c.n;
+    int i;
 
-    switch (c->operation) {
-    case MAKE_1A:
-        return felica_encrypt_challenge1a(c->scheme, keys, key_n, id, id_n, data, n, out, room);
-    case READ_1A:
-        return felica_decrypt_challenge1a(c->scheme, keys, key_n, id, id_n, data, n, out, room);
-    case MAKE_1B:
-        return felica_encrypt_challenge1b(c->scheme, keys, key_n, id, id_n, third, third_n, data, n, out, room);
-    case CHECK_1B:
-        return felica_verify_challenge1b(c->scheme, keys, key_n, id, id_n, third, third_n, data, n, checked, c->checked.n);
-    case MAKE_2A:
-        return felica_encrypt_challenge2a(c->scheme, keys, key_n, id, id_n, third, third_n, data, n, out, room);
-    case READ_2A:
-        return felica_decrypt_challenge2a(c->scheme, keys, key_n, id, id_n, third, third_n, data, n, out, room);
-    case MAKE_2B:
-        return felica_encrypt_challenge2b(c->scheme, keys, key_n, id, id_n, data, n, out, room);
-    case CHECK_2B:
-        return felica_verify_challenge2b(c->scheme, keys, key_n, id, id_n, data, n, checked, c->checked.n);
-    default:
-        return felica_derive_secure_session_keys(data, n, out, room);
+    part("each function with each of its numbers");
+    for (i = 0; i < OPERATIONS; i++) {
+        enum operation operation = (enum operation)i;
+        unsigned long own = numbers_of(operation, FELICA_SCHEME_DES) | numbers_of(operation, FELICA_SCHEME_AES128);
+
+        // a forecast has no buffers: forecasts.c calls it itself
+        check(operation == FORECAST || given_numbers[i] == own, name_of(operation));
     }
-}
-
-static uint64_t invoke_session(const struct call *c, uint8_t *const *in, uint8_t *session, uint8_t *out, size_t room)
-{
-    const uint8_t *data = in[2];
-    size_t n = c->data.n, size = c->session.n;
-
-    switch (c->operation) {
-    case MAKE_SESSION:
-        return felica_session_new(c->scheme, c->number, in[0], c->id.n, in[1], c->credentials.n, in[8], c->nodes.n, out, room);
-    case STEP:
-        return felica_session_increment_transaction_number(session, size);
-    case SET:
-        return felica_session_set_transaction_number(session, size, c->number);
-    case SEAL_IN:
-        return felica_session_encrypt_command(session, size, c->code, data, n, out, room);
-    case APPLY:
-        return felica_session_apply_response(session, size, c->code, data, n, out, room);
-    case INDEX:
-        return felica_session_node_index(session, size, c->number);
-    case TELL_NUMBER:
-        return felica_session_transaction_number(session, size);
-    case TELL_COUNT:
-        return felica_session_turned_away(session, size);
-    case TELL_SCHEME:
-        return felica_session_scheme(session, size);
-    case GIVE_ID:
-        return felica_session_transaction_id(session, size, out, room);
-    default:
-        return felica_session_nodes(session, size, out, room);
-    }
-}
-
-static uint64_t invoke(const struct call *c, uint8_t *const *in, uint8_t *session, uint8_t *out, size_t room)
-{
-    const uint8_t *id = in[0], *credentials = in[1], *data = in[2];
-    size_t id_n = c->id.n, key_n = c->credentials.n, n = c->data.n;
-
-    switch (c->operation) {
-    case DERIVE:
-        return felica_derive_auth_keys(c->scheme, credentials, key_n, in[5], c->areas.n, in[6], c->services.n, in[7], c->individual.n, out,
-                                       room);
-    case SEAL:
-        return felica_encrypt_command(c->scheme, c->code, c->number, id, id_n, credentials, key_n, data, n, out, room);
-    case FRAME:
-        return felica_build_secure_response_frame(c->scheme, c->code, c->number, id, id_n, credentials, key_n, data, n, out, room);
-    case OPEN:
-        return felica_decrypt_response(c->scheme, c->code, id, id_n, credentials, key_n, data, n, out, room);
-    case TRIMMED:
-        return felica_decrypt_response_trimmed_des(c->code, id, id_n, credentials, key_n, data, n, out, room);
-    case AUTH2_SEAL:
-        return felica_encrypt_authentication2_payload_des(credentials, key_n, data, n, out, room);
-    case AUTH2_OPEN_DES:
-        return felica_decrypt_authentication2_payload_des(credentials, key_n, data, n, out, room);
-    case AUTH2_OPEN_AES:
-        return felica_decrypt_authentication2_payload_v2_aes128(id, id_n, credentials, key_n, data, n, out, room);
-    case PACKAGE:
-        return felica_generate_registration_package_des(credentials, key_n, data, n, out, room);
-    default:
-        return c->operation < MAKE_SESSION ? invoke_challenge(c, in, out, room) : invoke_session(c, in, session, out, room);
-    }
-}
-
-static uint8_t *put(const struct fence *f, struct text t, enum place where)
-{
-    uint8_t *at = place_in(f, t.n, where);
-
-    if (t.n != 0) {
-        memcpy(at, t.at, t.n);
-    }
-    return at;
-}
-
-static int unchanged(const uint8_t *at, struct text t)
-{
-    return t.n == 0 || memcmp(at, t.at, t.n) == 0;
-}
-
-// A buffer that can be written, and what is around it.
-struct watched {
-    uint8_t *at, *low, *high;
-    const uint8_t *before;
-};
-
-// It and what is around it get bytes that differ from call to call.
-static struct watched watch(const struct fence *f, size_t n, enum place where, unsigned seed)
-{
-    struct watched w;
-
-    w.at = place_in(f, n, where);
-    w.low = w.high = f->start;
-    if (w.at != NULL) {
-        w.low = (size_t)(w.at - f->start) < AROUND ? f->start : w.at - AROUND;
-        w.high = (size_t)(f->end - w.at) - n < AROUND ? f->end : w.at + n + AROUND;
-    }
-    w.before = sample(seed, (size_t)(w.high - w.low)).at;
-    memcpy(w.low, w.before, (size_t)(w.high - w.low));
-    return w;
-}
-
-// Nothing changed but its first n bytes.
-static void only(const struct watched *w, size_t n)
-{
-    size_t kept;
-
-    if (w->at != NULL) {
-        kept = (size_t)(w->at - w->low);
-        check(memcmp(w->low, w->before, kept) == 0, "a byte before the output or the session changed");
-        kept += n;
-        check(memcmp(w->low + kept, w->before + kept, (size_t)(w->high - w->low) - kept) == 0, "a byte behind what was written changed");
-    }
-}
-
-static void check_bits(const struct call *c, uint64_t answer)
-{
-    unsigned number = felica_answer_number(answer);
-
-    check(number <= 17 && (numbers[c->operation] >> number & 1) != 0, "a number that is not the function's");
-    check((answer >> 48) == 0 && (felica_answer_scheme(answer) == 0 || c->operation == DERIVE || c->operation == TELL_SCHEME),
-          "a bit of the answer that has to be 0");
-    check(number == 0 || answer == number || (number == FELICA_KEY_MISSING && answer == missing(felica_answer_node(answer))),
-          "a refusal with a length, a scheme or a transaction number");
 }
 
 static void note(const struct call *c, size_t room, enum place where)
@@ -274,55 +90,30 @@ static void note(const struct call *c, size_t room, enum place where)
     last_first = c->data.n != 0 ? c->data.at[0] : 0;
     last_room = room;
     last_place = where;
-    last_answer = 0;
 }
 
-// Calls, and sees to what holds of every call. The output is left at *written.
+// Makes the call. The output gets bytes that differ from call to call, and is left at *written.
 static uint64_t run(const struct call *c, size_t room, enum place where, const uint8_t **written)
 {
-    static struct fence inputs[INPUTS], sessions, outputs;
-    uint8_t *in[INPUTS];
-    struct watched session, out;
-    int i;
+    struct given g = given_of(c);
+    struct text after = c->after.n != 0 ? c->after : c->session;
+    struct text ink = sample((unsigned)(count % 60000) + 1, (room > c->session.n ? room : c->session.n) + 2 * AROUND);
 
-    for (i = 0; outputs.start == NULL && i < INPUTS; i++) {
-        inputs[i] = fence_of(DATA_MAX);
-    }
-    if (outputs.start == NULL) {
-        sessions = fence_of(DATA_MAX);
-        outputs = fence_of(ROOM_MAX);
-    }
     note(c, room, where);
-    for (i = 0; i < INPUTS; i++) {
-        in[i] = put(&inputs[i], input_of(c, i), where);
-    }
-    out = watch(&outputs, room, where, (unsigned)(count % 60000) + 1);
-    session = watch(&sessions, c->session.n, where, (unsigned)(count % 60000) + 2);
-    put(&sessions, c->session, where);
-
     count++;
-    last_answer = invoke(c, in, session.at, out.at, room);
-    for (i = 0; i < INPUTS; i++) {
-        check(unchanged(in[i], input_of(c, i)), "an input changed");
-    }
-    check(unchanged(session.at, c->after.n != 0 ? c->after : c->session), "the session is not as it has to be");
-    only(&session, c->session.n);
-    check_bits(c, last_answer);
-    check(written_by(c->operation, last_answer) <= room, "a length above the output's");
-    only(&out, written_by(c->operation, last_answer));
-    *written = out.at;
-    return last_answer;
+    pass(&g, room, where, ink.at, &last_passed);
+    given_numbers[c->operation] |= 1ul << felica_answer_number(last_passed.answer);
+    check(after.n == 0 || memcmp(last_passed.session, after.at, after.n) == 0, "the session is not as it has to be");
+    *written = last_passed.out;
+    return last_passed.answer;
 }
 
-uint64_t missing(unsigned node)
-{
-    return FELICA_KEY_MISSING | (uint64_t)node << 32;
-}
+// ---- what it has to answer
 
 void answers(const struct call *c, size_t room, unsigned place, uint64_t answer, const uint8_t *wanted)
 {
     const uint8_t *out;
-    size_t n = written_by(c->operation, answer);
+    size_t n = takes(c->operation, TAKES_OUT) ? felica_answer_length(answer) : 0;
 
     check(run(c, room, (enum place)(place % PLACES), &out) == answer, "not the answer that it has to be");
     check(n == 0 || (wanted != NULL && memcmp(out, wanted, n) == 0), "not the bytes that it has to be");

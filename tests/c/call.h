@@ -1,46 +1,9 @@
-// One call of the library, with what has to hold whatever it is about:
-// - no byte outside the output changes, no input changes;
-// - a session is after the call as the call says, to the byte;
-// - a refusal is one of the function's own, changes no byte of the output, and every other bit of its answer is 0, but for the node with 4;
-// - an acceptance changes no byte of the output behind its length; bits 48 to 63 of its answer are 0, and bits 8 to 15 but for derivation
-//   and a session's scheme.
+// Calls of the library as this test has them, with the answers that they have to give. What holds of every call pass.h says; beside that a
+// session is after the call as the call says, to the byte.
 #ifndef CALL_H
 #define CALL_H
 
-#include "sample.h"
-
-enum operation {
-    SEAL,
-    FRAME,
-    OPEN,
-    TRIMMED,
-    AUTH2_SEAL,
-    AUTH2_OPEN_DES,
-    AUTH2_OPEN_AES,
-    PACKAGE,
-    DERIVE,
-    MAKE_1A,
-    READ_1A,
-    MAKE_1B,
-    CHECK_1B,
-    MAKE_2A,
-    READ_2A,
-    MAKE_2B,
-    CHECK_2B,
-    SESSION_KEYS,
-    MAKE_SESSION,
-    STEP,
-    SET,
-    SEAL_IN,
-    APPLY,
-    INDEX,
-    TELL_NUMBER,
-    TELL_COUNT,
-    TELL_SCHEME,
-    GIVE_ID,
-    GIVE_NODES,
-    OPERATIONS
-};
+#include "pass.h"
 
 // What an operation does not take is left out of the call: scheme, code and number of some, the ID of others.
 struct call {
@@ -69,9 +32,8 @@ struct call {
     struct text after;
 };
 
-// The limits of what can be passed.
-#define DATA_MAX 70000
-#define ROOM_MAX 140000
+// A call with ID and credentials of the right size, of the seed.
+struct call call_of(enum operation operation, unsigned scheme, unsigned seed, struct text data);
 
 // The call is turned down with this answer in an output of this room, wherever the buffers stand. The answer is a number, with 4 also
 // the node (missing).
@@ -79,9 +41,6 @@ void refuses_in(const struct call *c, size_t room, uint64_t refusal);
 
 // The same in an output of any room: of none, of one that is large enough for any answer, and some between.
 void refuses(const struct call *c, uint64_t refusal);
-
-// The refusal 4 of a node.
-uint64_t missing(unsigned node);
 
 // The call is accepted with this transaction number and n bytes, in an output of n bytes and in larger ones, and turned down with 16 in
 // smaller ones, which change no session. The bytes are `wanted`; where that is NULL any, but the same each time. They are copied to `got`

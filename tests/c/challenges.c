@@ -1,31 +1,39 @@
 #include "parts.h"
 
 #include "call.h"
-#include "chains.h"
 #include "check.h"
+#include "layout.h"
+#include "model_derivation.h"
 
 #include "../../include/felica_secure.h"
 
 #include <string.h>
 
-// What a call takes beside derived keys, IDm and a block.
+// A call, and the making whose block it gives, reads or checks.
 struct taking {
     enum operation operation;
-    int has_3c;
-    int checks;
-    // the making whose block is read here
     enum operation reads;
 };
 
 static const struct taking calls_of[] = {
-    {MAKE_1A, 0, 0, MAKE_1A}, {READ_1A, 0, 0, MAKE_1A}, {MAKE_1B, 1, 0, MAKE_1B}, {CHECK_1B, 1, 1, MAKE_1B},
-    {MAKE_2A, 1, 0, MAKE_2A}, {READ_2A, 1, 0, MAKE_2A}, {MAKE_2B, 0, 0, MAKE_2B}, {CHECK_2B, 0, 1, MAKE_2B},
+    {MAKE_1A, MAKE_1A}, {READ_1A, MAKE_1A}, {MAKE_1B, MAKE_1B}, {CHECK_1B, MAKE_1B},
+    {MAKE_2A, MAKE_2A}, {READ_2A, MAKE_2A}, {MAKE_2B, MAKE_2B}, {CHECK_2B, MAKE_2B},
 };
 #define CALLS (sizeof calls_of / sizeof calls_of[0])
 
+static int has_3c(const struct taking *t)
+{
+    return takes(t->operation, IN_THIRD);
+}
+
+static int checks(const struct taking *t)
+{
+    return takes(t->operation, IN_CHECKED);
+}
+
 static int reads(const struct taking *t)
 {
-    return t->operation != t->reads && !t->checks;
+    return t->operation != t->reads && !checks(t);
 }
 
 // An accepted call: its block, and what it checks, at `made`. Answers the block that it writes, or NULL.
@@ -39,12 +47,12 @@ static const uint8_t *good(const struct taking *t, unsigned scheme, unsigned see
     c->credentials = sample(seed + 41000, derived_size(scheme));
     c->id = sample(seed + 42000, 8);
     c->data = random;
-    if (t->has_3c) {
+    if (has_3c(t)) {
         c->challenge_3c = sample(seed + 43000, 4);
     }
     challenge_of(c, made);
     c->operation = t->operation;
-    if (t->checks) {
+    if (checks(t)) {
         c->checked = text_of(made, random.n);
         return NULL;
     }
@@ -57,7 +65,7 @@ static const uint8_t *good(const struct taking *t, unsigned scheme, unsigned see
 
 static void accepted(const struct taking *t, const struct call *c, const uint8_t *wanted)
 {
-    gives(c, 0, t->checks ? 0 : block_size(c->scheme), wanted, NULL);
+    gives(c, 0, checks(t) ? 0 : block_size(c->scheme), wanted, NULL);
 }
 
 // ---- lengths and marks
@@ -104,10 +112,10 @@ static void sizes(const struct taking *t, unsigned scheme)
     sizes_of(&c, &c.credentials);
     sizes_of(&c, &c.id);
     sizes_of(&c, &c.data);
-    if (t->has_3c) {
+    if (has_3c(t)) {
         sizes_of(&c, &c.challenge_3c);
     }
-    if (t->checks) {
+    if (checks(t)) {
         sizes_of(&c, &c.checked);
     }
 }
@@ -132,18 +140,18 @@ static void spoil(const struct taking *t, struct call *c, unsigned set)
     if (set & BLOCK) {
         c->data.n -= set % 5 + 1;
     }
-    if (set & THIRD && t->has_3c) {
+    if (set & THIRD && has_3c(t)) {
         c->challenge_3c.n -= set % 4 + 1;
     }
-    if (set & CHECKED && t->checks) {
+    if (set & CHECKED && checks(t)) {
         c->checked.n -= set % 5 + 1;
     }
 }
 
 static void orders_of(const struct taking *t, unsigned scheme)
 {
-    unsigned looks_at = MARK | KEYS | IDM | BLOCK | (t->has_3c ? THIRD : 0) | (t->checks ? CHECKED : 0), set;
-    size_t room = t->checks ? 0 : block_size(scheme);
+    unsigned looks_at = MARK | KEYS | IDM | BLOCK | (has_3c(t) ? THIRD : 0) | (checks(t) ? CHECKED : 0), set;
+    size_t room = checks(t) ? 0 : block_size(scheme);
 
     for (set = 0; set < SETS; set++) {
         struct call c;
@@ -151,13 +159,13 @@ static void orders_of(const struct taking *t, unsigned scheme)
         const uint8_t *wanted = good(t, scheme, set, &c, made);
 
         spoil(t, &c, set);
-        if (set & LATER && t->checks) {
+        if (set & LATER && checks(t)) {
             made[0] ^= 1;
         }
         if (set & looks_at) {
-            refuses_in(&c, set & LATER && !t->checks ? room - 1 : room, FELICA_BAD_MARK_OR_LENGTH);
+            refuses_in(&c, set & LATER && !checks(t) ? room - 1 : room, FELICA_BAD_MARK_OR_LENGTH);
         } else if (set & LATER) {
-            refuses_in(&c, t->checks ? 0 : room - 1, t->checks ? FELICA_MAC_DIFFERS : FELICA_OUTPUT_TOO_SMALL);
+            refuses_in(&c, checks(t) ? 0 : room - 1, checks(t) ? FELICA_MAC_DIFFERS : FELICA_OUTPUT_TOO_SMALL);
         } else {
             accepted(t, &c, wanted);
         }
@@ -253,7 +261,7 @@ static void others(const struct taking *t, unsigned scheme)
     // DES: 2B has L as a key alone; in 1B it is also what alpha encrypts
     check(others_of(&c, &c.id) == (is_des && t->operation == CHECK_2B ? 8 : 0), "another IDm with the same challenge");
     others_of(&c, &c.credentials);
-    if (t->has_3c) {
+    if (has_3c(t)) {
         check(others_of(&c, &c.challenge_3c) == (is_des ? 32 : 0), "Challenge 3C");
     }
 }
@@ -293,7 +301,7 @@ void challenges(void)
             sizes(t, scheme);
             orders_of(t, scheme);
             bytes(t, scheme);
-            if (t->checks) {
+            if (checks(t)) {
                 damages_of(t, scheme);
                 others(t, scheme);
             }

@@ -1,15 +1,15 @@
 #include "parts.h"
 
 #include "call.h"
-#include "chains.h"
 #include "check.h"
+#include "model_derivation.h"
 
 #include "../../include/felica_secure.h"
 
 #include <string.h>
 
 // Derivations with every combination of what can be wrong with each of their parts, so that every order of the refusals is met; and
-// generated ones. The answer of each is that of the document's order, written out in chains.c.
+// generated ones. The answer of each is that of the document's order, written out in model_derivation.c.
 
 // What the parts can be; none of the first is wrong in itself.
 // Of the keys it is a set.
@@ -67,7 +67,7 @@ static void fill_nodes(struct lists *l, int areas, int services)
 // In exactly the room that it takes, in one byte less, and in none; a refusal in room and in none.
 static void in_rooms(const struct call *c, unsigned place, unsigned long *seen)
 {
-    struct derived d = derivation_of(c);
+    struct modelled d = derivation_of(c);
     size_t n = felica_answer_length(d.answer);
 
     seen[d.answer % 256]++;

@@ -1,8 +1,9 @@
 #include "parts.h"
 
 #include "call.h"
-#include "chains.h"
 #include "check.h"
+#include "layout.h"
+#include "model_derivation.h"
 
 #include "../../include/felica_secure.h"
 
@@ -15,7 +16,7 @@ static const uint8_t zeros[16];
 // Turned down in any room, or accepted with the bytes of the document's layout.
 static void as_document(const struct call *c)
 {
-    struct derived d = derivation_of(c);
+    struct modelled d = derivation_of(c);
 
     if (d.answer % 256 != 0) {
         refuses(c, d.answer);

@@ -23,7 +23,7 @@ static void marks(enum operation operation)
     }
 }
 
-static void sizes(enum operation operation, unsigned scheme, int has_id)
+static void sizes(enum operation operation, unsigned scheme)
 {
     // the last ones would be right if they were cut to 8 or 16 bits
     static const size_t odd[] = {256 + 6, 256 + 8, 256 + 36, 65536 + 6, 65536 + 8, 65536 + 36};
@@ -38,7 +38,7 @@ static void sizes(enum operation operation, unsigned scheme, int has_id)
             refuses(&c, FELICA_BAD_MARK_OR_LENGTH);
         }
         c = call_of(operation, scheme, (unsigned)i, sample((unsigned)i, 40));
-        if (has_id && n != 6) {
+        if (takes(operation, IN_ID) && n != 6) {
             c.id = sample((unsigned)i, n);
             refuses(&c, FELICA_BAD_MARK_OR_LENGTH);
         }
@@ -54,13 +54,13 @@ void fixed(void)
     marks(FRAME);
     marks(OPEN);
     for (scheme = 1; scheme <= 2; scheme++) {
-        sizes(SEAL, scheme, 1);
-        sizes(FRAME, scheme, 1);
-        sizes(OPEN, scheme, 1);
+        sizes(SEAL, scheme);
+        sizes(FRAME, scheme);
+        sizes(OPEN, scheme);
     }
-    sizes(TRIMMED, FELICA_SCHEME_DES, 1);
-    sizes(AUTH2_SEAL, FELICA_SCHEME_DES, 0);
-    sizes(AUTH2_OPEN_DES, FELICA_SCHEME_DES, 0);
-    sizes(AUTH2_OPEN_AES, FELICA_SCHEME_AES128, 1);
-    sizes(PACKAGE, FELICA_SCHEME_DES, 0);
+    sizes(TRIMMED, FELICA_SCHEME_DES);
+    sizes(AUTH2_SEAL, FELICA_SCHEME_DES);
+    sizes(AUTH2_OPEN_DES, FELICA_SCHEME_DES);
+    sizes(AUTH2_OPEN_AES, FELICA_SCHEME_AES128);
+    sizes(PACKAGE, FELICA_SCHEME_DES);
 }

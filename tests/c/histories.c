@@ -2,8 +2,8 @@
 
 #include "check.h"
 #include "layout.h"
-#include "records.h"
-#include "seals.h"
+#include "model_frames.h"
+#include "model_session.h"
 
 #include "../../include/felica_secure.h"
 

@@ -9,6 +9,16 @@ size_t padded(size_t n)
     return (n + 7) / 8 * 8;
 }
 
+size_t block_size(unsigned scheme)
+{
+    return scheme == FELICA_SCHEME_DES ? 8 : 16;
+}
+
+size_t derived_size(unsigned scheme)
+{
+    return scheme == FELICA_SCHEME_DES ? 16 : 32;
+}
+
 size_t credentials_size(unsigned scheme)
 {
     return scheme == FELICA_SCHEME_DES ? 8 : 36;
@@ -61,19 +71,4 @@ size_t as_opened(unsigned scheme, struct text payload, uint8_t *to)
     memcpy(to, payload.at, payload.n);
     memset(to + payload.n, (int)added, added);
     return payload.n + added;
-}
-
-struct call call_of(enum operation operation, unsigned scheme, unsigned seed, struct text data)
-{
-    struct call c;
-
-    memset(&c, 0, sizeof c);
-    c.operation = operation;
-    c.scheme = (uint8_t)scheme;
-    c.code = (uint8_t)(seed * 37);
-    c.number = (uint16_t)(seed * 40503);
-    c.id = sample(seed + 20000, 6);
-    c.credentials = sample(seed + 30000, credentials_size(scheme));
-    c.data = data;
-    return c;
 }

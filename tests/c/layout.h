@@ -1,13 +1,15 @@
-// What the document says of sizes and refusals by length, written out here once more and not taken from the library; and calls to make.
+// What the document says of sizes and refusals by length, written out here once more and not taken from the library.
 #ifndef LAYOUT_H
 #define LAYOUT_H
 
-#include "call.h"
+#include "sample.h"
 
 // n bytes in whole blocks of 8.
 size_t padded(size_t n);
 
-// The size of the credentials, and of the longest payload.
+// The sizes of a block, of the derived keys, of the credentials, and of the longest payload.
+size_t block_size(unsigned scheme);
+size_t derived_size(unsigned scheme);
 size_t credentials_size(unsigned scheme);
 size_t payload_max(unsigned scheme);
 
@@ -21,8 +23,5 @@ unsigned authentication2_number(size_t n);
 
 // A payload as an opening gives it back, at `to`: padded with DES. Answers how long it is.
 size_t as_opened(unsigned scheme, struct text payload, uint8_t *to);
-
-// A call with ID and credentials of the right size, of the seed.
-struct call call_of(enum operation operation, unsigned scheme, unsigned seed, struct text data);
 
 #endif

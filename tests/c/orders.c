@@ -30,17 +30,7 @@ static void spoil(struct call *c, unsigned set)
 
 static unsigned looks_at(enum operation operation)
 {
-    switch (operation) {
-    case SEAL:
-    case FRAME:
-    case OPEN:
-        return MARK | ID | CREDENTIALS;
-    case TRIMMED:
-    case AUTH2_OPEN_AES:
-        return ID | CREDENTIALS;
-    default:
-        return CREDENTIALS;
-    }
+    return (takes(operation, TAKES_SCHEME) ? MARK : 0) | (takes(operation, IN_ID) ? ID : 0) | CREDENTIALS;
 }
 
 // Each set on top of a call that gives `number`: 17 comes before it, 16 only where it is 0. An accepted call fills `size` bytes.
@@ -60,8 +50,7 @@ static void each_set(const struct call *good, unsigned number, size_t size)
         } else if (set & ROOM && size != 0) {
             refuses_in(&c, room, FELICA_OUTPUT_TOO_SMALL);
         } else {
-            gives(&c, good->operation == OPEN || good->operation == TRIMMED || good->operation == AUTH2_OPEN_AES ? good->number : 0,
-                  size, NULL, NULL);
+            gives(&c, has_trait(good->operation, NUMBERED) ? good->number : 0, size, NULL, NULL);
         }
     }
 }

@@ -2,8 +2,8 @@
 
 #include "check.h"
 #include "layout.h"
-#include "records.h"
-#include "seals.h"
+#include "model_frames.h"
+#include "model_session.h"
 
 #include "../../include/felica_secure.h"
 
@@ -16,9 +16,12 @@ static void is_none(const uint8_t *bytes, size_t n)
 {
     int operation;
 
-    for (operation = STEP; operation <= GIVE_NODES; operation++) {
+    for (operation = 0; operation < OPERATIONS; operation++) {
         struct call c = with_session((enum operation)operation, bytes);
 
+        if (!takes(c.operation, IN_SESSION)) {
+            continue;
+        }
         c.session.n = n;
         c.data = sample(11, 40);
         refuses_in(&c, 300, FELICA_BAD_MARK_OR_LENGTH);

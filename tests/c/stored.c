@@ -1,11 +1,8 @@
 #include "parts.h"
 
 #include "call.h"
-#include "chains.h"
 #include "check.h"
-#include "layout.h"
-#include "records.h"
-#include "seals.h"
+#include "model_session.h"
 
 #include "../../include/felica_secure.h"
 
@@ -54,8 +51,12 @@ static const struct form forms[] = {
 #define LINE 100000
 #define FIELDS 12
 
+static int files;
+static char **file_paths;
 // Cases by operation and scheme; those without a known one count as of scheme 0.
 static unsigned long seen[FORMS][3];
+// All of them.
+static unsigned long cases;
 
 static unsigned long number_of(const char *field, unsigned long most)
 {
@@ -111,29 +112,14 @@ static void forecast(const struct call *c, unsigned number, size_t n)
           "a forecast is not within 7 bytes of the stored size");
 }
 
-// The layouts as this test has them are the original's.
-static void as_written_here(const struct call *c, uint64_t answer, struct text wanted)
+// The answer and its bytes are those of the test's own model, where it has the operation.
+static void as_modelled(const struct call *c, uint64_t answer, struct text wanted)
 {
-    uint8_t bytes[32], sealed[256];
+    struct modelled m;
 
-    if (c->operation == DERIVE) {
-        struct derived d = derivation_of(c);
-
-        check(d.answer == answer && (wanted.n == 0 || memcmp(d.bytes, wanted.at, wanted.n) == 0), "a stored derivation is not this test's");
-    } else if (c->operation == SEAL && answer % 256 == 0) {
-        check(seal_of(c, sealed) == wanted.n && memcmp(sealed, wanted.at, wanted.n) == 0, "a stored sealing is not this test's");
-    } else if (c->operation == OPEN && answer % 256 != FELICA_BAD_MARK_OR_LENGTH) {
-        struct opened o = opening_of(c);
-
-        check(o.number == answer % 256 && o.transaction == answer >> 32 && o.n == wanted.n && memcmp(o.bytes, wanted.at, o.n) == 0,
-              "a stored opening is not this test's");
-    } else if (answer % 256 == 0 && wanted.n != 0 && c->operation >= MAKE_1A && c->operation != READ_1A && c->operation != READ_2A) {
-        if (c->operation == SESSION_KEYS) {
-            session_keys_of(c->data.at, bytes);
-        } else {
-            challenge_of(c, bytes);
-        }
-        check(memcmp(bytes, wanted.at, wanted.n) == 0, "a stored challenge is not this test's");
+    if (model_of(c, &m)) {
+        check(m.answer == answer, "a stored answer is not the model's");
+        check(wanted.n == 0 || memcmp(m.bytes, wanted.at, wanted.n) == 0, "the bytes of a stored answer are not the model's");
     }
 }
 
@@ -210,6 +196,12 @@ static struct values values_of(const char *values, char **fields)
     return v;
 }
 
+// The 64 bits of such an answer. Of the values that share bits one is 0.
+static uint64_t answer_of(const struct values *v)
+{
+    return v->number | (uint64_t)v->mark << 8 | (uint64_t)(v->bytes.n + v->index) << 16 | (uint64_t)(v->transaction + v->node) << 32;
+}
+
 // A session with what the case has, and the seed's for the rest.
 static struct session session_for(const struct call *c, unsigned scheme)
 {
@@ -248,10 +240,11 @@ static void session_case(struct call c, const struct values *v, unsigned scheme)
     write_session(&s, after);
     c.session = text_of(before, RECORD);
     c.after = text_of(after, RECORD);
+    as_modelled(&c, answer_of(v), v->bytes);
     if (v->number != 0) {
         refuses(&c, v->number);
     } else if (c.operation == INDEX) {
-        tells(&c, (uint64_t)v->index << 16);
+        tells(&c, answer_of(v));
     } else {
         gives(&c, v->transaction, v->bytes.n, v->bytes.at, NULL);
     }
@@ -259,16 +252,14 @@ static void session_case(struct call c, const struct values *v, unsigned scheme)
 
 static void plain_case(const struct call *c, const struct values *v)
 {
-    uint64_t node = (uint64_t)v->node << 32, mark = (uint64_t)v->mark << 8, number = (uint64_t)v->transaction << 32;
-
     if (v->number != 0) {
-        refuses(c, v->number | node);
+        refuses(c, answer_of(v));
     } else if (c->operation == DERIVE) {
         derives(c, v->mark, v->bytes.n, v->bytes.at, NULL);
     } else {
         gives(c, v->transaction, v->bytes.n, v->bytes.at, NULL);
     }
-    as_written_here(c, v->number | node | number | (uint64_t)v->bytes.n << 16 | mark, v->bytes);
+    as_modelled(c, answer_of(v), v->bytes);
     if (c->operation == OPEN && c->scheme == FELICA_SCHEME_DES) {
         trimmed(*c, v->number, v->transaction, v->bytes);
     }
@@ -292,7 +283,7 @@ static void run_case(const struct form *f, char **fields, int count)
     }
     v = values_of(f->values, fields + at);
     seen[f - forms][c.scheme <= 2 ? c.scheme : 0]++;
-    if (f->operation < MAKE_SESSION) {
+    if (family_of(f->operation) != family_session) {
         plain_case(&c, &v);
         return;
     }
@@ -339,7 +330,7 @@ static void run_line(char *line)
     run_case(&forms[i], fields, count);
 }
 
-void stored(const char *path)
+static void run_file(const char *path)
 {
     static char line[LINE];
     FILE *f = fopen(path, "r");
@@ -358,20 +349,40 @@ void stored(const char *path)
     check(!ferror(f) && fclose(f) == 0, "the file cannot be read");
 }
 
-unsigned long stored_all_seen(void)
+// Fails where an operation has no case in one of the schemes.
+static void all_seen(void)
 {
-    unsigned long sum = 0;
     unsigned scheme;
     size_t i;
 
-    part("stored answers");
     for (i = 0; i < FORMS; i++) {
         for (scheme = 0; scheme < 3; scheme++) {
             int has = forms[i].inputs[0] == 's' ? scheme != 0 || forms[i].operation == DERIVE : scheme == 0;
 
             check(!has || seen[i][scheme] != 0, "an operation with no stored answer");
-            sum += seen[i][scheme];
+            cases += seen[i][scheme];
         }
     }
-    return sum;
+}
+
+void stored_files(int count, char **paths)
+{
+    files = count;
+    file_paths = paths;
+}
+
+unsigned long stored_cases(void)
+{
+    return cases;
+}
+
+void stored(void)
+{
+    int i;
+
+    for (i = 0; i < files; i++) {
+        run_file(file_paths[i]);
+    }
+    part("stored answers");
+    all_seen();
 }

@@ -1,6 +1,8 @@
 #include "recipe.h"
 #include "shot.h"
 
+#include "../c/layout.h"
+
 #include "../../include/felica_secure.h"
 
 #include <string.h>
@@ -25,7 +27,7 @@ static uint8_t next(struct feed *f)
     return (uint8_t)(f->state >> 56);
 }
 
-static void fill(struct feed *f, struct text *t, size_t n)
+static void fill(struct feed *f, struct buffer *t, size_t n)
 {
     size_t i;
 
@@ -49,40 +51,22 @@ static uint8_t mark(uint8_t b)
     return b < 0xE0 ? b & 3 : b;
 }
 
-static size_t block(unsigned scheme)
-{
-    return scheme == DES ? 8 : 16;
-}
-
 static size_t keys_size(enum operation op, unsigned scheme)
 {
-    switch (op) {
-    case TRIMMED:
-    case AUTH2_SEAL:
-    case AUTH2_OPEN_DES:
-    case PACKAGE:
-        return FELICA_DES_KEY_SIZE;
-    case AUTH2_OPEN_AES:
-        return FELICA_AES_CREDENTIALS_SIZE;
-    default:
-        if (op <= SESSION_KEYS) {
-            return 2 * block(scheme);
-        }
-        return scheme == DES ? FELICA_DES_KEY_SIZE : FELICA_AES_CREDENTIALS_SIZE;
-    }
+    return family_of(op) == family_derivation ? derived_size(scheme) : credentials_size(scheme_of(op, scheme));
 }
 
 // ---- lists of a derivation
 
 static const uint16_t nodes_known[8] = {0xFFFF, 0x0000, 0x1000, 0x1008, 0x1009, 0x1048, 0x1017, 0x2000};
 
-static void put_word(struct text *t, unsigned value)
+static void put_word(struct buffer *t, unsigned value)
 {
     t->at[t->n++] = (uint8_t)value;
     t->at[t->n++] = (uint8_t)(value >> 8);
 }
 
-static void add_entry(struct feed *f, struct text *t, unsigned node, unsigned algorithm)
+static void add_entry(struct feed *f, struct buffer *t, unsigned node, unsigned algorithm)
 {
     int i;
 
@@ -93,7 +77,7 @@ static void add_entry(struct feed *f, struct text *t, unsigned node, unsigned al
     }
 }
 
-static void add_nodes(struct feed *f, struct text *t, unsigned count)
+static void add_nodes(struct feed *f, struct buffer *t, unsigned count)
 {
     t->n = 0;
     while (count-- != 0) {
@@ -107,40 +91,40 @@ static void lists(struct feed *f, const struct recipe *r, struct shot *s)
     unsigned i, mask = word(r->own), many = r->length[0] % 140;
 
     s->scheme = r->scheme < 0xE0 ? r->scheme % 3 : r->scheme;
-    s->in[KEYS].n = 0;
+    s->in[IN_KEYS].n = 0;
     for (i = 0; r->source % 4 != 1 && i < 16; i++) {
         if ((mask >> i & 1) != 0) {
-            add_entry(f, &s->in[KEYS], nodes_known[i % 8], 1 + i / 8);
+            add_entry(f, &s->in[IN_KEYS], nodes_known[i % 8], 1 + i / 8);
         }
     }
     for (i = 0; r->source % 4 == 2 && i < many; i++) {
-        add_entry(f, &s->in[KEYS], 0x4000 + i, 1 + i % 2);
+        add_entry(f, &s->in[IN_KEYS], 0x4000 + i, 1 + i % 2);
     }
     if (r->source % 4 == 1) {
-        fill(f, &s->in[KEYS], (r->length[1] % 8) * 19u);
+        fill(f, &s->in[IN_KEYS], (r->length[1] % 8) * 19u);
     }
-    add_nodes(f, &s->in[AREAS], r->flip % 4 + (r->room_n % 16 == 0) * 32u);
-    add_nodes(f, &s->in[SERVICES], r->flip / 4 % 4 + (r->room_n % 16 == 1) * 32u);
-    fill(f, &s->in[INDIVIDUAL], r->flip >= 0x80 ? 16 : 0);
+    add_nodes(f, &s->in[IN_AREAS], r->flip % 4 + (r->room_n % 16 == 0) * 32u);
+    add_nodes(f, &s->in[IN_SERVICES], r->flip / 4 % 4 + (r->room_n % 16 == 1) * 32u);
+    fill(f, &s->in[IN_INDIVIDUAL], r->flip >= 0x80 ? 16 : 0);
 }
 
 // ---- data, sealed by the library where the recipe says so
 
 static void seal(struct shot *s, unsigned code, uint8_t *id)
 {
-    struct text plain = s->in[DATA];
-    unsigned scheme = s->op == TRIMMED ? DES : s->op == AUTH2_OPEN_AES ? AES : s->scheme;
+    struct buffer plain = s->in[IN_DATA];
+    unsigned scheme = scheme_of(s->op, s->scheme);
     uint64_t answer;
 
     if (s->op == AUTH2_OPEN_DES) {
-        answer = felica_encrypt_authentication2_payload_des(s->in[KEYS].at, 8, plain.at, plain.n, s->in[DATA].at, INPUT_MAX);
+        answer = felica_encrypt_authentication2_payload_des(s->in[IN_KEYS].at, 8, plain.at, plain.n, s->in[IN_DATA].at, INPUT_MAX);
     } else {
         code = s->op == AUTH2_OPEN_AES ? 0x43 : code;
-        answer = felica_encrypt_command((uint8_t)scheme, (uint8_t)code, s->number, id, 6, s->in[KEYS].at, keys_size(s->op, scheme),
-                                        plain.at, plain.n, s->in[DATA].at, INPUT_MAX);
+        answer = felica_encrypt_command((uint8_t)scheme, (uint8_t)code, s->number, id, 6, s->in[IN_KEYS].at, keys_size(s->op, scheme),
+                                        plain.at, plain.n, s->in[IN_DATA].at, INPUT_MAX);
     }
     if (felica_answer_number(answer) == 0) {
-        s->in[DATA].n = felica_answer_length(answer);
+        s->in[IN_DATA].n = felica_answer_length(answer);
     }
 }
 
@@ -152,24 +136,25 @@ static void sealed(const struct recipe *r, struct shot *s)
     if (source == RAW) {
         return;
     }
-    memcpy(id, s->in[ID].at, sizeof id);
+    memcpy(id, s->in[IN_ID].at, sizeof id);
     id[r->flip % 6] ^= source == OTHER_ID;
     code ^= source == OTHER_CODE;
     seal(s, code, id);
-    if (source == FLIPPED && s->in[DATA].n != 0) {
-        s->in[DATA].at[r->flip % s->in[DATA].n] ^= (uint8_t)(1u << r->flip % 8);
+    if (source == FLIPPED && s->in[IN_DATA].n != 0) {
+        s->in[IN_DATA].at[r->flip % s->in[IN_DATA].n] ^= (uint8_t)(1u << r->flip % 8);
     }
     if (source == LONGER) {
-        s->in[DATA].n += 1 + r->flip % 16;
+        s->in[IN_DATA].n += 1 + r->flip % 16;
     }
 }
 
 // The challenge that is checked: right, or with a bit changed, or any.
 static void checked(struct feed *f, const struct recipe *r, struct shot *s)
 {
-    struct text *keys = &s->in[KEYS], *id = &s->in[ID], *data = &s->in[DATA], *third = &s->in[THIRD], *to = &s->in[CHECKED];
+    struct buffer *keys = &s->in[IN_KEYS], *id = &s->in[IN_ID], *data = &s->in[IN_DATA], *third = &s->in[IN_THIRD];
+    struct buffer *to = &s->in[IN_CHECKED];
 
-    fill(f, to, block(s->scheme));
+    fill(f, to, block_size(s->scheme));
     if (r->source % SOURCES == RAW) {
         return;
     }
@@ -187,12 +172,11 @@ static void checked(struct feed *f, const struct recipe *r, struct shot *s)
 
 static void session(struct feed *f, const struct recipe *r, struct shot *s)
 {
-    struct text *to = &s->in[SESSION];
+    struct buffer *id = &s->in[IN_ID], *keys = &s->in[IN_KEYS], *nodes = &s->in[IN_NODES], *to = &s->in[IN_SESSION];
     uint8_t scheme = s->scheme == DES ? DES : AES;
 
     to->n = FELICA_SESSION_SIZE;
-    felica_session_new(scheme, word(r->own), s->in[ID].at, s->in[ID].n, s->in[KEYS].at, keys_size(NEW, scheme), s->in[NODES].at,
-                       s->in[NODES].n, to->at, to->n);
+    felica_session_new(scheme, word(r->own), id->at, id->n, keys->at, credentials_size(scheme), nodes->at, nodes->n, to->at, to->n);
     if (r->room_n % 8 == 1) {
         to->at[r->flip % to->n] ^= next(f);
     }
@@ -208,7 +192,7 @@ static void session(struct feed *f, const struct recipe *r, struct shot *s)
 // Empty, as large as the answer can be and more, or of any size.
 static size_t room(const struct recipe *r, enum operation op)
 {
-    if (op == NEW && r->room < 0xC0) {
+    if (op == MAKE_SESSION && r->room < 0xC0) {
         return FELICA_SESSION_SIZE;
     }
     if (r->room < 0x40) {
@@ -221,8 +205,8 @@ static size_t data_size(const struct recipe *r, enum operation op, unsigned sche
 {
     unsigned n = word(r->length);
 
-    if (op <= SESSION_KEYS) {
-        return op == SESSION_KEYS ? FELICA_AES_BLOCK_SIZE : block(scheme);
+    if (family_of(op) == family_derivation) {
+        return block_size(scheme_of(op, scheme));
     }
     if (op == PACKAGE) {
         return n % 16 == 15 ? n % INPUT_MAX : n % 520 * 8;
@@ -232,24 +216,24 @@ static size_t data_size(const struct recipe *r, enum operation op, unsigned sche
 
 static void inputs(struct feed *f, const struct recipe *r, struct shot *s)
 {
-    fill(f, &s->in[ID], s->op <= SESSION_KEYS ? FELICA_IDM_SIZE : FELICA_ID_SIZE);
-    fill(f, &s->in[KEYS], keys_size(s->op, s->scheme));
-    fill(f, &s->in[THIRD], FELICA_CHALLENGE_3C_SIZE);
-    if (s->op >= NEW) {
-        fill(f, &s->in[NODES], r->flip % 70 * 2u);
+    fill(f, &s->in[IN_ID], family_of(s->op) == family_derivation ? FELICA_IDM_SIZE : FELICA_ID_SIZE);
+    fill(f, &s->in[IN_KEYS], keys_size(s->op, s->scheme));
+    fill(f, &s->in[IN_THIRD], FELICA_CHALLENGE_3C_SIZE);
+    if (family_of(s->op) == family_session) {
+        fill(f, &s->in[IN_NODES], r->flip % 70 * 2u);
         // a node that is in the list, sometimes
-        if (s->op == NODE_INDEX && r->source % 2 == 0 && s->in[NODES].n != 0) {
-            s->number = word(s->in[NODES].at + r->code * 2u % s->in[NODES].n);
+        if (s->op == INDEX && r->source % 2 == 0 && s->in[IN_NODES].n != 0) {
+            s->number = word(s->in[IN_NODES].at + r->code * 2u % s->in[IN_NODES].n);
         }
     }
-    fill(f, &s->in[DATA], data_size(r, s->op, s->scheme));
-    if (opens(s->op)) {
+    fill(f, &s->in[IN_DATA], data_size(r, s->op, s->scheme));
+    if (has_trait(s->op, OPENS)) {
         sealed(r, s);
     }
-    if (s->op == CHECK_1B || s->op == CHECK_2B) {
+    if (takes(s->op, IN_CHECKED)) {
         checked(f, r, s);
     }
-    if (s->op > NEW) {
+    if (takes(s->op, IN_SESSION)) {
         session(f, r, s);
     }
 }

@@ -25,8 +25,8 @@ int LLVMFuzzerTestOneInput(const uint8_t *data, size_t n);
 void check(int holds, const char *what)
 {
     if (!holds) {
-        fprintf(stderr, "fuzz: FOUND: %s: %s (mark %u, room %zu, data %zu, place %u)\n", names[shot.op], what, shot.scheme, shot.room,
-                shot.in[DATA].n, shot.place);
+        fprintf(stderr, "fuzz: FOUND: %s: %s (mark %u, room %zu, data %zu, place %u)\n", name_of(shot.op), what, shot.scheme, shot.room,
+                shot.in[IN_DATA].n, shot.place);
         abort();
     }
 }
@@ -40,7 +40,7 @@ static void print_operation(enum operation op)
     for (k = 0; k < NUMBERS; k++) {
         all += tally[op][k];
     }
-    fprintf(stderr, "tally: | %s | %lu |", names[op], all);
+    fprintf(stderr, "tally: | %s | %lu |", name_of(op), all);
     for (k = 0; k < NUMBERS; k++) {
         if (tally[op][k] != 0) {
             fprintf(stderr, " %d: %lu", k, tally[op][k]);
@@ -75,7 +75,7 @@ static void count(uint64_t answer)
     unsigned number = felica_answer_number(answer);
 
     tally[shot.op][number]++;
-    counters[(shot.op * NUMBERS + number) * CLASSES + class_of(shot.in[DATA].n)] = 1;
+    counters[(shot.op * NUMBERS + number) * CLASSES + class_of(shot.in[IN_DATA].n)] = 1;
 }
 
 int LLVMFuzzerInitialize(int *argc, char ***argv)
@@ -98,7 +98,7 @@ static void fits(const struct result *first)
     count(r.answer);
     if (n != 0) {
         fire(&shot, n - 1, AT_START, 0x3C, &r);
-        check(r.answer == (shot.op == NEW ? FELICA_BAD_MARK_OR_LENGTH : FELICA_OUTPUT_TOO_SMALL), "an output that is too small");
+        check(r.answer == (shot.op == MAKE_SESSION ? FELICA_BAD_MARK_OR_LENGTH : FELICA_OUTPUT_TOO_SMALL), "an output that is too small");
         session_after(&shot, &r);
         count(r.answer);
     }
@@ -116,13 +116,13 @@ int LLVMFuzzerTestOneInput(const uint8_t *data, size_t n)
 
     // other ink, so that a byte that was not written shows; other places, so that both ends of each buffer stand at a fence
     fire(&shot, shot.room, shot.place == AT_END ? AT_START : AT_END, 0x5A, &again);
-    length = writes(shot.op) ? felica_answer_length(first.answer) : 0;
+    length = takes(shot.op, TAKES_OUT) ? felica_answer_length(first.answer) : 0;
     check(again.answer == first.answer && memcmp(again.out, first.out, length) == 0, "another answer the second time");
-    check(memcmp(again.session, first.session, shot.in[SESSION].n) == 0, "another session the second time");
+    check(memcmp(again.session, first.session, shot.in[IN_SESSION].n) == 0, "another session the second time");
     count(again.answer);
 
     inverse(&shot, &first);
-    if (felica_answer_number(first.answer) == 0 && writes(shot.op)) {
+    if (felica_answer_number(first.answer) == 0 && takes(shot.op, TAKES_OUT)) {
         fits(&first);
     }
     return 0;

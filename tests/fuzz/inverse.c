@@ -1,15 +1,16 @@
 #include "shot.h"
 
 #include "../c/check.h"
+#include "../c/layout.h"
 
 #include "../../include/felica_secure.h"
 
 #include <string.h>
 
-#define B(which) s->in[which].at, s->in[which].n
+#define B(which) s->in[IN_##which].at, s->in[IN_##which].n
 #define CHALLENGE s->scheme, B(KEYS), B(ID)
 
-static uint8_t back[ROOM_MAX];
+static uint8_t back[OUTPUT_MAX];
 #define BACK back, sizeof back
 
 // The answer and its bytes.
@@ -17,16 +18,6 @@ static void gives(uint64_t answer, unsigned number, const uint8_t *bytes, size_t
 {
     check(answer == ((uint64_t)number << 32 | (uint64_t)n << 16), "the inverse answers another");
     check(n == 0 || memcmp(back, bytes, n) == 0, "the inverse gives other bytes");
-}
-
-// A payload as an opening gives it back: padded with DES.
-static size_t padded(unsigned scheme, const struct text *payload, uint8_t *to)
-{
-    size_t added = scheme == FELICA_SCHEME_DES ? (8 - payload->n % 8) % 8 : 0;
-
-    memcpy(to, payload->at, payload->n);
-    memset(to + payload->n, (int)added, added);
-    return payload->n + added;
 }
 
 static void challenge_inverse(const struct shot *s, const struct result *r)
@@ -66,8 +57,8 @@ static void challenge_inverse(const struct shot *s, const struct result *r)
 static void opens_back(const struct shot *s, const uint8_t *data, size_t n)
 {
     uint8_t wanted[INPUT_MAX + 8];
-    size_t size = padded(s->scheme, &s->in[DATA], wanted);
-    uint64_t forecast = felica_forecast(s->scheme, s->in[DATA].n);
+    size_t size = as_opened(s->scheme, text_of(B(DATA)), wanted);
+    uint64_t forecast = felica_forecast(s->scheme, s->in[IN_DATA].n);
 
     gives(felica_decrypt_response(s->scheme, s->code, B(ID), B(KEYS), data, n, BACK), s->number, wanted, size);
     check(felica_answer_length(forecast) >= n && felica_answer_length(forecast) <= n + 7, "the forecast is wrong");
@@ -116,8 +107,8 @@ static void sealed_inverse(const struct shot *s, const struct result *r)
         trims(s, r);
         break;
     case AUTH2_SEAL:
-        if (s->in[DATA].n != 0) {
-            size_t size = padded(FELICA_SCHEME_DES, &s->in[DATA], wanted);
+        if (s->in[IN_DATA].n != 0) {
+            size_t size = as_opened(FELICA_SCHEME_DES, text_of(B(DATA)), wanted);
 
             gives(felica_decrypt_authentication2_payload_des(B(KEYS), r->out, n, BACK), 0, wanted, size);
         }

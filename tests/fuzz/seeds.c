@@ -68,15 +68,15 @@ static void plain(struct recipe r)
 // The same call with its bytes written out, sealed data too.
 static void spelled(struct recipe r)
 {
-    static const enum input order[] = {ID, KEYS, THIRD, NODES, DATA};
+    static const enum argument order[] = {IN_ID, IN_KEYS, IN_THIRD, IN_NODES, IN_DATA};
     static struct shot s;
     size_t i;
     FILE *f;
 
     decode((const uint8_t *)&r, sizeof r, &s);
     r.source = RAW;
-    r.length[0] = (uint8_t)s.in[DATA].n;
-    r.length[1] = (uint8_t)(s.in[DATA].n >> 8);
+    r.length[0] = (uint8_t)s.in[IN_DATA].n;
+    r.length[1] = (uint8_t)(s.in[IN_DATA].n >> 8);
     f = open_next(&r);
     for (i = 0; i < sizeof order / sizeof order[0]; i++) {
         put(f, s.in[order[i]].at, s.in[order[i]].n);
@@ -105,7 +105,7 @@ static void operation(enum operation op, unsigned scheme)
     for (i = 0; i < SOURCES; i++) {
         r = recipe_of(op, scheme, (enum source)i, 40);
         plain(r);
-        if (opens(op)) {
+        if (has_trait(op, OPENS)) {
             spelled(r);
         }
     }
@@ -205,8 +205,8 @@ int main(int argc, char **argv)
 
     check(argc == 2, "seeds DIR");
     folder = argv[1];
-    for (op = MAKE_1A; op < OPERATIONS; op++) {
-        for (scheme = 1; scheme <= 2; scheme++) {
+    for (op = 0; op < OPERATIONS; op++) {
+        for (scheme = 1; op != DERIVE && scheme <= 2; scheme++) {
             operation((enum operation)op, scheme);
         }
     }

@@ -1,6 +1,7 @@
 #include "shot.h"
 
 #include "../c/check.h"
+#include "../c/layout.h"
 
 #include "../../include/felica_secure.h"
 
@@ -69,7 +70,7 @@ static int changed_only(const uint8_t *before, const uint8_t *after, const uint8
 
 static void turned_away(const struct shot *s, const struct result *r, unsigned number)
 {
-    const uint8_t *before = s->in[SESSION].at;
+    const uint8_t *before = s->in[IN_SESSION].at;
     unsigned count = count_in(before);
 
     if (s->op == APPLY && number >= 10 && number <= 15) {
@@ -82,14 +83,14 @@ static void turned_away(const struct shot *s, const struct result *r, unsigned n
 
 void session_after(const struct shot *s, const struct result *r)
 {
-    const uint8_t *before = s->in[SESSION].at;
+    const uint8_t *before = s->in[IN_SESSION].at;
     unsigned number = felica_answer_number(r->answer);
 
-    if (!steps(s->op)) {
+    if (!has_trait(s->op, CHANGES)) {
         return;
     }
-    if (s->in[SESSION].n != SIZE) {
-        check(number == FELICA_BAD_MARK_OR_LENGTH && memcmp(before, r->session, s->in[SESSION].n) == 0, "a session of another size");
+    if (s->in[IN_SESSION].n != SIZE) {
+        check(number == FELICA_BAD_MARK_OR_LENGTH && memcmp(before, r->session, s->in[IN_SESSION].n) == 0, "a session of another size");
         return;
     }
     if (number != 0) {
@@ -108,12 +109,13 @@ void session_after(const struct shot *s, const struct result *r)
 
 static void made(const struct shot *s, const struct result *r)
 {
+    const struct buffer *nodes = &s->in[IN_NODES];
     uint8_t back[300];
     uint64_t answer = felica_session_transaction_id(WHOLE(r->out), back, sizeof back);
 
-    check(answer == (uint64_t)6 << 16 && memcmp(back, s->in[ID].at, 6) == 0, "the ID of a made session");
+    check(answer == (uint64_t)6 << 16 && memcmp(back, s->in[IN_ID].at, 6) == 0, "the ID of a made session");
     answer = felica_session_nodes(WHOLE(r->out), back, sizeof back);
-    check(answer == (uint64_t)s->in[NODES].n << 16 && memcmp(back, s->in[NODES].at, s->in[NODES].n) == 0, "the nodes of a made session");
+    check(answer == (uint64_t)nodes->n << 16 && memcmp(back, nodes->at, nodes->n) == 0, "the nodes of a made session");
     check(number_in(r->out) == s->number && count_in(r->out) == 0, "number and count of a made session");
     check(felica_answer_scheme(felica_session_scheme(WHOLE(r->out))) == s->scheme, "the scheme of a made session");
 }
@@ -122,35 +124,36 @@ static void made(const struct shot *s, const struct result *r)
 static void opens_as_response(const struct shot *s, const struct result *r)
 {
     uint8_t session[SIZE], back[300];
-    unsigned number = number_in(s->in[SESSION].at), scheme = felica_answer_scheme(felica_session_scheme(WHOLE(s->in[SESSION].at)));
-    size_t n = s->in[DATA].n, size = scheme == FELICA_SCHEME_DES ? (n + 7) / 8 * 8 : n;
+    unsigned number = number_in(s->in[IN_SESSION].at), scheme = felica_answer_scheme(felica_session_scheme(WHOLE(s->in[IN_SESSION].at)));
+    size_t n = s->in[IN_DATA].n, size = scheme == FELICA_SCHEME_DES ? padded(n) : n;
     uint64_t answer;
 
     if (number == 0) {
         return;
     }
-    memcpy(session, s->in[SESSION].at, SIZE);
+    memcpy(session, s->in[IN_SESSION].at, SIZE);
     felica_session_set_transaction_number(WHOLE(session), (uint16_t)(number - 1));
     answer = felica_session_apply_response(WHOLE(session), s->code, r->out, felica_answer_length(r->answer), back, sizeof back);
     check(answer == ((uint64_t)number << 32 | (uint64_t)size << 16), "what a session sealed is not opened");
-    check(memcmp(back, s->in[DATA].at, n) == 0, "what a session sealed opens as other bytes");
+    check(memcmp(back, s->in[IN_DATA].at, n) == 0, "what a session sealed opens as other bytes");
 }
 
 // What was opened seals to the same bytes, under the session as it is behind the step.
 static void seals_as_command(const struct shot *s, const struct result *r)
 {
+    const struct buffer *data = &s->in[IN_DATA];
     uint8_t back[300];
     size_t n = felica_answer_length(r->answer);
     uint64_t answer = felica_session_encrypt_command(WHOLE(r->session), s->code, r->out, n, back, sizeof back);
 
-    check(answer == (uint64_t)s->in[DATA].n << 16 && memcmp(back, s->in[DATA].at, s->in[DATA].n) == 0, "what was opened seals to others");
+    check(answer == (uint64_t)data->n << 16 && memcmp(back, data->at, data->n) == 0, "what was opened seals to others");
 }
 
 // An index is the node's first place.
 static void is_first_place(const struct shot *s, const struct result *r)
 {
     uint8_t nodes[300];
-    size_t i, n = felica_answer_length(felica_session_nodes(WHOLE(s->in[SESSION].at), nodes, sizeof nodes)) / 2;
+    size_t i, n = felica_answer_length(felica_session_nodes(WHOLE(s->in[IN_SESSION].at), nodes, sizeof nodes)) / 2;
 
     for (i = 0; i < n && (nodes[2 * i] | nodes[2 * i + 1] << 8) != s->number; i++) {
     }
@@ -160,16 +163,16 @@ static void is_first_place(const struct shot *s, const struct result *r)
 void session_inverse(const struct shot *s, const struct result *r)
 {
     switch (s->op) {
-    case NEW:
+    case MAKE_SESSION:
         made(s, r);
         break;
-    case SESSION_SEAL:
+    case SEAL_IN:
         opens_as_response(s, r);
         break;
     case APPLY:
         seals_as_command(s, r);
         break;
-    case NODE_INDEX:
+    case INDEX:
         is_first_place(s, r);
         break;
     default:

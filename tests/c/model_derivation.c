@@ -1,7 +1,8 @@
-#include "chains.h"
+#include "model_derivation.h"
 
 #include "blocks.h"
 #include "check.h"
+#include "layout.h"
 
 #include "../../include/felica_secure.h"
 
@@ -145,9 +146,9 @@ static uint64_t links_of(struct text keys, struct text nodes, unsigned algorithm
     return answer;
 }
 
-static struct derived des_chain(const struct call *c)
+static struct modelled des_chain(const struct call *c)
 {
-    struct derived d = {0, {0}};
+    struct modelled d = {0, {0}};
     uint8_t bearing[64];
     size_t n = 0, at;
     const uint8_t *system = key_of(c->credentials, 0xFFFF, FELICA_ALGORITHM_DES);
@@ -180,9 +181,9 @@ static struct derived des_chain(const struct call *c)
     return d;
 }
 
-static struct derived aes_chain(const struct call *c)
+static struct modelled aes_chain(const struct call *c)
 {
-    struct derived d = {0, {0}};
+    struct modelled d = {0, {0}};
 
     d.bytes[0] = 0x01;
     d.bytes[1] = 0x01;
@@ -203,9 +204,9 @@ static struct derived aes_chain(const struct call *c)
     return d;
 }
 
-struct derived derivation_of(const struct call *c)
+struct modelled derivation_of(const struct call *c)
 {
-    struct derived d = {0, {0}};
+    struct modelled d = {0, {0}};
     unsigned target;
 
     d.answer = first_rows(c);
@@ -231,16 +232,6 @@ struct derived derivation_of(const struct call *c)
 }
 
 // ---- challenges
-
-size_t block_size(unsigned scheme)
-{
-    return scheme == FELICA_SCHEME_DES ? 8 : 16;
-}
-
-size_t derived_size(unsigned scheme)
-{
-    return scheme == FELICA_SCHEME_DES ? 16 : 32;
-}
 
 static int under_alpha(enum operation operation)
 {
@@ -305,4 +296,47 @@ void session_keys_of(const uint8_t *random_2, uint8_t *to)
     to[14] = to[30] = 0x01;
     aes(random_2, to, to);
     aes(random_2, to + 16, to + 16);
+}
+
+// ---- as a model of every call but the reading of a challenge: the test's own AES has no way back
+
+static int sizes_fit(const struct call *c)
+{
+    size_t block = block_size(scheme_of(c->operation, c->scheme));
+
+    if (c->operation == SESSION_KEYS) {
+        return c->data.n == block;
+    }
+    return (c->scheme == FELICA_SCHEME_DES || c->scheme == FELICA_SCHEME_AES128) && c->credentials.n == derived_size(c->scheme) &&
+           c->id.n == 8 && c->data.n == block && (!takes(c->operation, IN_THIRD) || c->challenge_3c.n == 4) &&
+           (!takes(c->operation, IN_CHECKED) || c->checked.n == block);
+}
+
+static void model_challenge(const struct call *c, struct modelled *m)
+{
+    if (!sizes_fit(c)) {
+        m->answer = FELICA_BAD_MARK_OR_LENGTH;
+    } else if (c->operation == SESSION_KEYS) {
+        m->answer = 32 << 16;
+        session_keys_of(c->data.at, m->bytes);
+    } else {
+        m->answer = (uint64_t)c->data.n << 16;
+        challenge_of(c, m->bytes);
+    }
+    if (m->answer != FELICA_BAD_MARK_OR_LENGTH && takes(c->operation, IN_CHECKED)) {
+        m->answer = memcmp(m->bytes, c->checked.at, c->checked.n) == 0 ? 0 : FELICA_MAC_DIFFERS;
+    }
+}
+
+int model_derivation(const struct call *c, struct modelled *m)
+{
+    if (c->operation == READ_1A || c->operation == READ_2A) {
+        return 0;
+    }
+    if (c->operation == DERIVE) {
+        *m = derivation_of(c);
+    } else {
+        model_challenge(c, m);
+    }
+    return 1;
 }

@@ -1,8 +1,8 @@
 // What the document says of sealing and opening, written out here once more and not taken from the library.
-#ifndef SEALS_H
-#define SEALS_H
+#ifndef MODEL_FRAMES_H
+#define MODEL_FRAMES_H
 
-#include "call.h"
+#include "models.h"
 
 // The bytes of a sealing that is accepted, and how many they are.
 size_t seal_of(const struct call *c, uint8_t *to);

@@ -1,7 +1,7 @@
-#include "records.h"
+#include "model_session.h"
 
 #include "layout.h"
-#include "seals.h"
+#include "model_frames.h"
 
 #include "../../include/felica_secure.h"
 
@@ -37,6 +37,25 @@ void write_session(const struct session *s, uint8_t *to)
     memcpy(to + AT_ID, s->id, 6);
     memcpy(to + AT_CREDENTIALS, s->credentials, 36);
     memcpy(to + AT_NODES, s->nodes, 128);
+}
+
+static unsigned read_number(const uint8_t *at)
+{
+    return at[0] + 256u * at[1];
+}
+
+struct session read_session(const uint8_t *bytes)
+{
+    struct session s;
+
+    s.scheme = bytes[AT_SCHEME];
+    s.number = read_number(bytes + AT_NUMBER);
+    s.turned = read_number(bytes + AT_COUNT);
+    s.listed = read_number(bytes + AT_LISTED);
+    memcpy(s.id, bytes + AT_ID, 6);
+    memcpy(s.credentials, bytes + AT_CREDENTIALS, 36);
+    memcpy(s.nodes, bytes + AT_NODES, 128);
+    return s;
 }
 
 // ---- calls
@@ -78,9 +97,9 @@ struct call with_session(enum operation operation, const uint8_t *bytes)
 // ---- answers
 
 // n bytes, or 16.
-static struct told writes(const uint8_t *bytes, size_t n, unsigned transaction, size_t room)
+static struct modelled writes(const uint8_t *bytes, size_t n, unsigned transaction, size_t room)
 {
-    struct told t;
+    struct modelled t;
 
     memset(&t, 0, sizeof t);
     if (room < n) {
@@ -92,9 +111,9 @@ static struct told writes(const uint8_t *bytes, size_t n, unsigned transaction, 
     return t;
 }
 
-static struct told says(uint64_t answer)
+static struct modelled says(uint64_t answer)
 {
-    struct told t;
+    struct modelled t;
 
     memset(&t, 0, sizeof t);
     t.answer = answer;
@@ -102,7 +121,7 @@ static struct told says(uint64_t answer)
 }
 
 // At 0xFFFF it refuses.
-static struct told step(struct session *s)
+static struct modelled step(struct session *s)
 {
     if (s->number == 0xFFFF) {
         return says(FELICA_NUMBER_EXHAUSTED);
@@ -111,7 +130,7 @@ static struct told step(struct session *s)
     return says((uint64_t)s->number << 32);
 }
 
-static struct told seal(const struct session *s, const struct call *c, size_t room)
+static struct modelled seal(const struct session *s, const struct call *c, size_t room)
 {
     struct call sealing = sealing_of(s, c->code, s->number, c->data);
     uint8_t bytes[256];
@@ -123,11 +142,11 @@ static struct told seal(const struct session *s, const struct call *c, size_t ro
 }
 
 // Open, require the number to exceed the session's, then set it. 10 to 15 are counted.
-static struct told apply(struct session *s, const struct call *c, size_t room)
+static struct modelled apply(struct session *s, const struct call *c, size_t room)
 {
     struct call opening = sealing_of(s, c->code, 0, c->data);
     struct opened o = opening_of(&opening);
-    struct told t = writes(o.bytes, o.n, o.transaction, room);
+    struct modelled t = writes(o.bytes, o.n, o.transaction, room);
 
     if (o.number == 0 && o.transaction <= s->number) {
         o.number = FELICA_NUMBER_NOT_ABOVE;
@@ -142,7 +161,7 @@ static struct told apply(struct session *s, const struct call *c, size_t room)
 }
 
 // The first place, or 64. A session has at most 64 nodes, whatever it says.
-static struct told place(const struct session *s, unsigned node)
+static struct modelled place(const struct session *s, unsigned node)
 {
     unsigned n = s->listed < 64 ? s->listed : 64, i = 0;
 
@@ -152,7 +171,7 @@ static struct told place(const struct session *s, unsigned node)
     return says((uint64_t)(i < n ? i : 64) << 16);
 }
 
-struct told session_call(struct session *s, const struct call *c, size_t room)
+struct modelled session_call(struct session *s, const struct call *c, size_t room)
 {
     switch (c->operation) {
     case STEP:
@@ -182,7 +201,7 @@ struct told session_call(struct session *s, const struct call *c, size_t room)
 uint64_t holds(struct session *s, struct call c, size_t room, unsigned place)
 {
     uint8_t before[RECORD], after[RECORD];
-    struct told t;
+    struct modelled t;
 
     write_session(s, before);
     t = session_call(s, &c, room);
@@ -191,4 +210,23 @@ uint64_t holds(struct session *s, struct call c, size_t room, unsigned place)
     c.after = text_of(after, RECORD);
     answers(&c, room, place, t.answer, t.bytes);
     return t.answer;
+}
+
+// ---- as a model of every call but the making of a session, which write_session is
+
+int model_session(const struct call *c, struct modelled *m)
+{
+    const uint8_t *bytes = c->session.at;
+    struct session s;
+
+    if (c->operation == MAKE_SESSION) {
+        return 0;
+    }
+    if (c->session.n != RECORD || bytes[AT_VERSION] != 1 || bytes[AT_SCHEME] < 1 || bytes[AT_SCHEME] > 2) {
+        m->answer = FELICA_BAD_MARK_OR_LENGTH;
+        return 1;
+    }
+    s = read_session(bytes);
+    *m = session_call(&s, c, sizeof m->bytes);
+    return 1;
 }

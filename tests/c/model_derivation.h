@@ -1,8 +1,8 @@
 // What the document says of derivation and challenges, written out here once more and not taken from the library; and lists to call with.
-#ifndef CHAINS_H
-#define CHAINS_H
+#ifndef MODEL_DERIVATION_H
+#define MODEL_DERIVATION_H
 
-#include "call.h"
+#include "models.h"
 
 // Lists of a derivation, to be filled. What is behind the entries may be used to make a list longer by a part of one.
 #define KEYS_ROOM 200
@@ -22,16 +22,8 @@ void add_service(struct lists *l, unsigned node);
 // A derivation of these lists, with no individual key.
 struct call derivation(const struct lists *l, unsigned mark);
 
-// What a derivation answers in an output that is large enough, and its bytes.
-struct derived {
-    uint64_t answer;
-    uint8_t bytes[32];
-};
-struct derived derivation_of(const struct call *c);
-
-// The sizes of a block and of the derived keys.
-size_t block_size(unsigned scheme);
-size_t derived_size(unsigned scheme);
+// What a derivation answers in an output that is large enough.
+struct modelled derivation_of(const struct call *c);
 
 // The block that a making writes, or that a checking accepts.
 void challenge_of(const struct call *c, uint8_t *to);

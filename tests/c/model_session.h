@@ -1,8 +1,8 @@
 // The session as document and layout have it, written out here once more and not taken from the library.
-#ifndef RECORDS_H
-#define RECORDS_H
+#ifndef MODEL_SESSION_H
+#define MODEL_SESSION_H
 
-#include "call.h"
+#include "models.h"
 
 // The layout: version 1, scheme mark 1, number 2, count 2, number of nodes 2, ID 6, credentials 36, nodes 128; low bytes first.
 #define RECORD 178
@@ -20,8 +20,9 @@ struct session {
 
 // A session of the seed, with so many nodes.
 struct session session_of(unsigned scheme, unsigned seed, unsigned listed);
-// Its bytes.
+// Its bytes, and the session of such bytes.
 void write_session(const struct session *s, uint8_t *to);
+struct session read_session(const uint8_t *bytes);
 
 // The call that makes it.
 struct call making_of(const struct session *s);
@@ -30,12 +31,8 @@ struct call with_session(enum operation operation, const uint8_t *bytes);
 // A sealing under the session's scheme, ID and credentials.
 struct call sealing_of(const struct session *s, unsigned code, unsigned number, struct text payload);
 
-// What a call answers in an output of this room: n bytes, where it writes. The session is left as it is after the call.
-struct told {
-    uint64_t answer;
-    uint8_t bytes[256];
-};
-struct told session_call(struct session *s, const struct call *c, size_t room);
+// What a call answers in an output of this room. The session is left as it is after the call.
+struct modelled session_call(struct session *s, const struct call *c, size_t room);
 
 // Makes the call, whose session it fills in, with the buffers at one place: answer, output and session are those of session_call. Answers
 // the answer.

@@ -1,4 +1,4 @@
-#include "seals.h"
+#include "model_frames.h"
 
 #include "blocks.h"
 #include "layout.h"
@@ -194,4 +194,61 @@ struct opened opening_of(const struct call *c)
         aes_open(c, &o);
     }
     return o;
+}
+
+// ---- as a model of sealing and opening; DES Authentication 2 and packages have stored answers alone, forecasts a part of their own
+
+static int sizes_fit(const struct call *c)
+{
+    return (c->scheme == FELICA_SCHEME_DES || c->scheme == FELICA_SCHEME_AES128) && c->id.n == 6 &&
+           c->credentials.n == credentials_size(c->scheme);
+}
+
+// A frame: length byte, which counts itself, code, sealed data.
+static void model_sealing(const struct call *c, struct modelled *m)
+{
+    size_t front = c->operation == FRAME ? 2 : 0, n;
+
+    if (c->data.n > payload_max(c->scheme)) {
+        m->answer = FELICA_TOO_LONG;
+        return;
+    }
+    n = front + seal_of(c, m->bytes + front);
+    if (front != 0) {
+        m->bytes[0] = (uint8_t)n;
+        m->bytes[1] = c->code;
+    }
+    m->answer = (uint64_t)n << 16;
+}
+
+// The trimmed opening drops v bytes where the last is a v of 1 to 7.
+static void model_opening(const struct call *c, struct modelled *m)
+{
+    struct opened o = opening_of(c);
+    unsigned last = o.n != 0 ? o.bytes[o.n - 1] : 0;
+
+    if (c->operation == TRIMMED && last >= 1 && last <= 7) {
+        o.n -= last;
+    }
+    m->answer = o.number | (uint64_t)o.n << 16 | (uint64_t)o.transaction << 32;
+    memcpy(m->bytes, o.bytes, o.n);
+}
+
+int model_frames(const struct call *c, struct modelled *m)
+{
+    struct call own = *c;
+
+    own.scheme = (uint8_t)scheme_of(c->operation, c->scheme);
+    own.code = c->operation == AUTH2_OPEN_AES ? 0x43 : c->code;
+    if (c->operation == FORECAST || c->operation == AUTH2_SEAL || c->operation == AUTH2_OPEN_DES || c->operation == PACKAGE) {
+        return 0;
+    }
+    if (!sizes_fit(&own)) {
+        m->answer = FELICA_BAD_MARK_OR_LENGTH;
+    } else if (has_trait(c->operation, OPENS)) {
+        model_opening(&own, m);
+    } else {
+        model_sealing(&own, m);
+    }
+    return 1;
 }
