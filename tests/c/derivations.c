@@ -55,30 +55,44 @@ static void accepted(unsigned mark, struct text individual, unsigned scheme)
     clear(&lists);
 }
 
-static void examples(void)
+// 1, 2 and 17 are the same under each mark.
+static void examples_of_keys(unsigned mark)
 {
-    const struct text none = text_of(NULL, 0), given = text_of(zeros, 16), short_one = text_of(zeros, 8);
-    unsigned i, mark;
+    const struct text none = text_of(NULL, 0), short_one = text_of(zeros, 8);
+    unsigned i;
 
     clear(&lists);
     // 1: 33 services
-    for (mark = 0; mark <= 2; mark++) {
-        for (i = 0; i < 33; i++) {
-            add_service(&lists, 0x1008);
-        }
-        turned_down(mark, none, 1);
+    for (i = 0; i < 33; i++) {
+        add_service(&lists, 0x1008);
     }
+    turned_down(mark, none, 1);
     // 2: node 0x1008 AES twice; the other halves of DES keys make no other keys of them
-    for (mark = 0; mark <= 2; mark++) {
-        add_key(&lists, 0x1008, AES, 1);
-        add_key(&lists, 0x1008, AES, 2);
-        turned_down(mark, none, 2);
-        add_key(&lists, 0x1008, DES, 1);
-        add_key(&lists, 0x1000, DES, 1);
-        add_key(&lists, 0x1008, DES, 2);
-        memcpy(lists.keys + 2 * 19 + 3, lists.keys + 3, 8);
-        turned_down(mark, none, 2);
+    add_key(&lists, 0x1008, AES, 1);
+    add_key(&lists, 0x1008, AES, 2);
+    turned_down(mark, none, 2);
+    add_key(&lists, 0x1008, DES, 1);
+    add_key(&lists, 0x1000, DES, 1);
+    add_key(&lists, 0x1008, DES, 2);
+    memcpy(lists.keys + 2 * 19 + 3, lists.keys + 3, 8);
+    turned_down(mark, none, 2);
+    // 17: before 1, and for every entry
+    for (i = 0; i < 129; i++) {
+        add_key(&lists, i, i == 128 ? 3 : DES, 1);
     }
+    turned_down(mark, none, 17);
+    for (i = 0; i < 129; i++) {
+        add_key(&lists, 0x1008, DES, 1);
+    }
+    turned_down(mark, none, 1);
+    turned_down(mark, short_one, 17);
+}
+
+static void examples(void)
+{
+    const struct text none = text_of(NULL, 0), given = text_of(zeros, 16);
+
+    clear(&lists);
     // 3: both lists empty. With DES that is 7, or 6
     turned_down(BY_KEYS, none, 3);
     turned_down(BY_KEYS, given, 3);
@@ -107,18 +121,6 @@ static void examples(void)
     add_area(&lists, 0x0000);
     add_service(&lists, 0x1009);
     turned_down(DES, none, 8);
-    // 17: before 1, and for every entry
-    for (mark = 0; mark <= 2; mark++) {
-        for (i = 0; i < 129; i++) {
-            add_key(&lists, i, i == 128 ? 3 : DES, 1);
-        }
-        turned_down(mark, none, 17);
-        for (i = 0; i < 129; i++) {
-            add_key(&lists, 0x1008, DES, 1);
-        }
-        turned_down(mark, none, 1);
-        turned_down(mark, short_one, 17);
-    }
 }
 
 // A row at a time is put right, and the next one shows.
@@ -192,7 +194,6 @@ static void rows_of_nodes(void)
 static void targets(void)
 {
     const struct text none = text_of(NULL, 0), given = sample(5, 16);
-    unsigned mark, algorithm;
 
     clear(&lists);
     // the target's 4 comes before 6, 7 and 8
@@ -212,6 +213,14 @@ static void targets(void)
     keys(0x1048, AES);
     keys(0x1009, AES);
     turned_down(BY_KEYS, none, missing(0x1008));
+}
+
+static void targets_of_both(void)
+{
+    const struct text none = text_of(NULL, 0);
+    unsigned mark, algorithm;
+
+    clear(&lists);
     // a target with both algorithms makes an AES chain; DES can be forced
     for (mark = BY_KEYS; mark <= AES; mark++) {
         keys(SYSTEM, DES);
@@ -231,6 +240,13 @@ static void targets(void)
     keys(0x1008, DES);
     keys(0x1008, AES);
     turned_down(BY_KEYS, none, 5);
+}
+
+static void targets_without_keyed_service(void)
+{
+    const struct text none = text_of(NULL, 0), given = sample(5, 16);
+
+    clear(&lists);
     // key-free services only: the last is the target
     add_area(&lists, 0x0000);
     add_service(&lists, 0x1009);
@@ -294,6 +310,13 @@ static void chains(void)
     add_service(&lists, 0x1008);
     keys(SYSTEM, AES);
     turned_down(DES, none, 5);
+}
+
+static void chains_with_key_free_service(void)
+{
+    const struct text none = text_of(NULL, 0);
+
+    clear(&lists);
     // DES skips a key-free service, AES does not
     add_area(&lists, 0x0000);
     add_service(&lists, 0x1009);
@@ -503,11 +526,17 @@ void derivations(void)
     unsigned mark, scheme;
 
     part("derivations");
+    for (mark = BY_KEYS; mark <= AES; mark++) {
+        examples_of_keys(mark);
+    }
     examples();
     rows_des();
     rows_of_nodes();
     targets();
+    targets_of_both();
+    targets_without_keyed_service();
     chains();
+    chains_with_key_free_service();
     key_free_codes();
     same_bytes();
     for (scheme = DES; scheme <= AES; scheme++) {

@@ -41,21 +41,9 @@ static void sessions_over(const uint8_t *big, uint8_t *out)
     check(felica_session_turned_away(session, 178) == 1 << 16, "count");
 }
 
-// Memory that is there but costs nothing as long as nobody touches it. Nothing here may be read past its first page, nor written.
-void huge(void)
+static void frames_over(const uint8_t *big, uint8_t *out)
 {
-    size_t n = OVER + 4096;
-    uint8_t *big = mmap(NULL, n, PROT_READ | PROT_WRITE, MAP_PRIVATE | MAP_ANONYMOUS | MAP_NORESERVE, -1, 0);
     const uint8_t *id = sample(1, 6).at, *key = sample(2, 8).at, *credentials = sample(3, 36).at;
-    uint8_t out[5000], before[5000];
-
-    part("lengths over 32 bits");
-    check(big != MAP_FAILED, "mmap");
-    // the version and a mark of a session
-    big[0] = big[1] = 1;
-    check(mprotect(big, n, PROT_READ) == 0, "mprotect");
-    memcpy(before, sample(4, sizeof before).at, sizeof before);
-    memcpy(out, before, sizeof before);
 
     // a payload, data, a package
     check(felica_encrypt_command(1, 0, 1, id, 6, key, 8, big, OVER + 16, out, 5000) == 12, "payload, DES");
@@ -79,6 +67,11 @@ void huge(void)
     check(felica_decrypt_response(1, 0, id, 6, big, OVER + 8, credentials, 32, out, 5000) == 17, "key, opening");
     check(felica_decrypt_response(2, 0, id, 6, big, OVER + 36, credentials, 32, out, 5000) == 17, "credentials, opening");
     check(felica_generate_registration_package_des(big, OVER + 8, credentials, 32, out, 5000) == 17, "key, package");
+}
+
+static void derivation_over(const uint8_t *big, uint8_t *out)
+{
+    const uint8_t *id = sample(1, 6).at, *key = sample(2, 8).at, *credentials = sample(3, 36).at;
 
     // lists of a derivation: whole ones have too many entries; what would be whole if it were cut is not
     check(felica_derive_auth_keys(0, big, OVER + 19, id, 2, id, 2, id, 0, out, 5000) == 17, "keys");
@@ -103,7 +96,25 @@ void huge(void)
     check(felica_encrypt_challenge2b(1, credentials, 16, key, 8, big, OVER + 8, out, 5000) == 17, "random 2, 2B");
     check(felica_verify_challenge2b(1, credentials, 16, key, 8, key, 8, big, OVER + 8) == 17, "2B, checking it");
     check(felica_derive_secure_session_keys(big, OVER + 16, out, 5000) == 17, "random 2, session keys");
+}
 
+// Memory that is there but costs nothing as long as nobody touches it. Nothing here may be read past its first page, nor written.
+void huge(void)
+{
+    size_t n = OVER + 4096;
+    uint8_t *big = mmap(NULL, n, PROT_READ | PROT_WRITE, MAP_PRIVATE | MAP_ANONYMOUS | MAP_NORESERVE, -1, 0);
+    uint8_t out[5000], before[5000];
+
+    part("lengths over 32 bits");
+    check(big != MAP_FAILED, "mmap");
+    // the version and a mark of a session
+    big[0] = big[1] = 1;
+    check(mprotect(big, n, PROT_READ) == 0, "mprotect");
+    memcpy(before, sample(4, sizeof before).at, sizeof before);
+    memcpy(out, before, sizeof before);
+
+    frames_over(big, out);
+    derivation_over(big, out);
     sessions_over(big, out);
     check(memcmp(out, before, sizeof before) == 0, "the output changed");
     check(munmap(big, n) == 0, "munmap");
