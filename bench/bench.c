@@ -224,7 +224,8 @@ static void print_machine(void)
     printf("An x86-64 %s, %ld cores, %s AES instructions; gcc " __VERSION__, is_virtual() ? "server, a virtual machine" : "machine",
            sysconf(_SC_NPROCESSORS_ONLN), columns_n == CONTESTANTS ? "with" : "without");
     for (int c = OURS + 1; c < WITHOUT; c++)
-        printf(", %s", columns[c].contestant->version);
+        if (columns[c].contestant->version[0] != '\0')
+            printf(", %s", columns[c].contestant->version);
     printf(".\n\n");
 }
 

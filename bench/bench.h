@@ -134,7 +134,8 @@ struct input {
 // An operation writes its result to out. How long that is, the row says.
 typedef void operation(const struct input *in, uint8_t *out);
 
-// A library, with what it needs before the first operation, and its operation for each row; NULL where it has none.
+// A library: its name and version, or nothing where another column has said them; what it needs before the first operation; and its
+// operation for each row, NULL where it has none.
 struct contestant {
     const char *version;
     void (*start)(void);
@@ -196,6 +197,8 @@ extern const struct contestant ours;
 extern const struct contestant tomcrypt;
 extern const struct contestant openssl;
 extern const struct contestant openssl_evp;
+extern const struct contestant bearssl_ct;
+extern const struct contestant bearssl_ct64;
 // In a library of its own, which is loaded twice (contestants.c).
 extern const struct contestant nettle;
 

@@ -10,7 +10,9 @@ struct column columns[CONTESTANTS] = {
     [TOMCRYPT] = {"libtomcrypt", &tomcrypt},
     [OPENSSL] = {"OpenSSL", &openssl},
     [NETTLE] = {"nettle", NULL},
-    [EVP] = {"OpenSSL, AES instructions", &openssl_evp},
+    [BEARSSL] = {"BearSSL, constant time", &bearssl_ct},
+    [BEARSSL_64] = {"BearSSL, constant time, 64 bits", &bearssl_ct64},
+    [EVP] = {"OpenSSL EVP, AES instructions", &openssl_evp},
     [NETTLE_WITH] = {"nettle, AES instructions", NULL},
 };
 

@@ -9,6 +9,8 @@ enum {
     TOMCRYPT,
     OPENSSL,
     NETTLE,
+    BEARSSL,
+    BEARSSL_64,
     // What makes no use of the processor's AES instructions ends here.
     WITHOUT,
     EVP = WITHOUT,

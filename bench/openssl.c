@@ -1,9 +1,8 @@
-// OpenSSL's libcrypto, by its low-level functions: DES in portable C, AES in assembly that does not
-// use the processor's AES instructions. They are deprecated in favour of EVP, whose calls cost more
-// than a block; for a comparison of ciphers they are the stronger opponent.
+// OpenSSL's libcrypto, by its low-level block functions: DES in portable C, AES in assembly that does not use the processor's AES
+// instructions. They are deprecated in favour of EVP, whose calls cost more than a block; for a comparison of ciphers they are the
+// stronger opponent.
 #define OPENSSL_SUPPRESS_DEPRECATED
-#include "peer_aes.h"
-#include "peer_des.h"
+#include "peer.h"
 
 #include <openssl/aes.h>
 #include <openssl/des.h>
@@ -13,148 +12,97 @@ static void start(void)
 {
 }
 
-static void aes_one(const uint8_t *key, const uint8_t *text, uint8_t *out)
-{
-    AES_KEY k;
+typedef struct {
+    AES_KEY forth;
+    AES_KEY back;
+} aes_key;
 
-    AES_set_encrypt_key(key, 128, &k);
-    AES_encrypt(text, out, &k);
+static void aes_set(aes_key *k, const uint8_t *key)
+{
+    AES_set_encrypt_key(key, 128, &k->forth);
 }
 
-static void aes_one_back(const uint8_t *key, const uint8_t *text, uint8_t *out)
+static void aes_set_back(aes_key *k, const uint8_t *key)
 {
-    AES_KEY k;
-
-    AES_set_decrypt_key(key, 128, &k);
-    AES_decrypt(text, out, &k);
+    AES_set_decrypt_key(key, 128, &k->back);
 }
 
-static void aes_chain(const struct input *in, uint8_t *out)
+static void aes_set_both(aes_key *k, const uint8_t *key)
 {
-    AES_KEY k;
-
-    AES_set_encrypt_key(in->key, 128, &k);
-    memcpy(out, in->iv, AES_BLOCK);
-    for (int i = 0; i < AES_BLOCKS; i++)
-        AES_encrypt(out, out, &k);
+    AES_set_encrypt_key(key, 128, &k->forth);
+    AES_set_decrypt_key(key, 128, &k->back);
 }
 
-static void mode_ofb(const uint8_t *key, const uint8_t *iv, const struct part *parts, int count)
+static void aes_run(const aes_key *k, const uint8_t *text, uint8_t *out)
 {
-    AES_KEY k;
-    uint8_t state[AES_BLOCK];
-
-    AES_set_encrypt_key(key, 128, &k);
-    memcpy(state, iv, AES_BLOCK);
-    for (int i = 0; i < count; i++) {
-        int used = 0;
-
-        AES_ofb128_encrypt(parts[i].text, parts[i].out, parts[i].n, &k, state, &used);
-    }
+    AES_encrypt(text, out, &k->forth);
 }
 
-// The next subkey of CMAC: x shifted by a bit, and 0x87 added where a bit fell out.
-static void double_subkey(uint8_t *x)
+static void aes_run_back(const aes_key *k, const uint8_t *text, uint8_t *out)
 {
-    uint8_t high = x[0] >> 7;
-
-    for (int i = 0; i < AES_BLOCK - 1; i++)
-        x[i] = (uint8_t)(x[i] << 1 | x[i + 1] >> 7);
-    x[AES_BLOCK - 1] = (uint8_t)(x[AES_BLOCK - 1] << 1 ^ high * 0x87);
+    AES_decrypt(text, out, &k->back);
 }
 
-static void add_bytes(uint8_t *to, const uint8_t *from, size_t n)
+typedef DES_key_schedule des_key;
+
+// OpenSSL's types lack the const of what is only read.
+static des_key *schedule_of(const des_key *k)
 {
-    for (size_t i = 0; i < n; i++)
-        to[i] ^= from[i];
+    return (des_key *)(uintptr_t)k;
 }
 
-// The low-level functions have no CMAC, so this is one over AES_encrypt.
-static void mode_cmac(const uint8_t *key, const uint8_t *text, size_t n, uint8_t *mac)
+static void des_set(des_key *k, const uint8_t *key)
 {
-    AES_KEY k;
-    uint8_t subkey[AES_BLOCK] = {0};
-    const size_t last = (n - 1) / AES_BLOCK * AES_BLOCK;
-
-    AES_set_encrypt_key(key, 128, &k);
-    AES_encrypt(subkey, subkey, &k);
-    double_subkey(subkey);
-    memset(mac, 0, AES_BLOCK);
-    for (size_t at = 0; at < last; at += AES_BLOCK) {
-        add_bytes(mac, text + at, AES_BLOCK);
-        AES_encrypt(mac, mac, &k);
-    }
-    add_bytes(mac, text + last, n - last);
-    if (n - last < AES_BLOCK) {
-        mac[n - last] ^= 0x80;
-        double_subkey(subkey);
-    }
-    add_bytes(mac, subkey, AES_BLOCK);
-    AES_encrypt(mac, mac, &k);
+    DES_set_key_unchecked((DES_cblock *)(uintptr_t)key, k);
 }
 
-// OpenSSL's types for a block lack the const of what is only read.
-static DES_cblock *block_of(const uint8_t *bytes)
+#define des_set_back des_set
+#define des_set_both des_set
+
+// A block is two words, low byte first, as this processor has them.
+static void des_way(const des_key *k, const uint8_t *text, uint8_t *out, int way)
 {
-    return (DES_cblock *)(uintptr_t)bytes;
+    DES_LONG words[2];
+
+    memcpy(words, text, DES_BLOCK);
+    DES_encrypt1(words, schedule_of(k), way);
+    memcpy(out, words, DES_BLOCK);
 }
 
-static void run_des(const uint8_t *key, const uint8_t *text, uint8_t *out, int way)
+static void des_run(const des_key *k, const uint8_t *text, uint8_t *out)
 {
-    DES_key_schedule k;
-
-    DES_set_key_unchecked(block_of(key), &k);
-    DES_ecb_encrypt(block_of(text), block_of(out), &k, way);
+    des_way(k, text, out, DES_ENCRYPT);
 }
 
-static void des_one(const uint8_t *key, const uint8_t *text, uint8_t *out)
+static void des_run_back(const des_key *k, const uint8_t *text, uint8_t *out)
 {
-    run_des(key, text, out, DES_ENCRYPT);
+    des_way(k, text, out, DES_DECRYPT);
 }
 
-static void des_one_back(const uint8_t *key, const uint8_t *text, uint8_t *out)
+// Triple DES is a function of the library, which spares the permutations between its three.
+#define OWN_TDES
+static void tdes_run(const des_key *k1, const des_key *k2, const uint8_t *text, uint8_t *out)
 {
-    run_des(key, text, out, DES_DECRYPT);
+    DES_LONG words[2];
+
+    memcpy(words, text, DES_BLOCK);
+    DES_encrypt3(words, schedule_of(k1), schedule_of(k2), schedule_of(k1));
+    memcpy(out, words, DES_BLOCK);
 }
 
-static void run_tdes(const uint8_t *key1, const uint8_t *key2, const uint8_t *text, uint8_t *out, int way)
+static void tdes_run_back(const des_key *k1, const des_key *k2, const uint8_t *text, uint8_t *out)
 {
-    DES_key_schedule k1;
-    DES_key_schedule k2;
+    DES_LONG words[2];
 
-    DES_set_key_unchecked(block_of(key1), &k1);
-    DES_set_key_unchecked(block_of(key2), &k2);
-    DES_ecb2_encrypt(block_of(text), block_of(out), &k1, &k2, way);
+    memcpy(words, text, DES_BLOCK);
+    DES_decrypt3(words, schedule_of(k1), schedule_of(k2), schedule_of(k1));
+    memcpy(out, words, DES_BLOCK);
 }
 
-static void tdes_one(const uint8_t *key1, const uint8_t *key2, const uint8_t *text, uint8_t *out)
-{
-    run_tdes(key1, key2, text, out, DES_ENCRYPT);
-}
+#include "peer_chains.h"
 
-static void tdes_one_back(const uint8_t *key1, const uint8_t *key2, const uint8_t *text, uint8_t *out)
-{
-    run_tdes(key1, key2, text, out, DES_DECRYPT);
-}
-
-static void run_cbc(const uint8_t *key, const uint8_t *text, size_t n, uint8_t *out, int way)
-{
-    DES_key_schedule k;
-    DES_cblock state = {0};
-
-    DES_set_key_unchecked(block_of(key), &k);
-    DES_ncbc_encrypt(text, out, (long)n, &k, &state, way);
-}
-
-static void mode_cbc(const uint8_t *key, const uint8_t *text, size_t n, uint8_t *out)
-{
-    run_cbc(key, text, n, out, DES_ENCRYPT);
-}
-
-static void mode_cbc_back(const uint8_t *key, const uint8_t *text, size_t n, uint8_t *out)
-{
-    run_cbc(key, text, n, out, DES_DECRYPT);
-}
+#include "peer_aes.h"
+#include "peer_des.h"
 
 const struct contestant openssl = {
     "OpenSSL " OPENSSL_VERSION_STR,

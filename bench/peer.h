@@ -1,5 +1,5 @@
 // What is the same for every peer in both schemes: answers, comparisons, and the search of a derivation.
-// peer_aes.h and peer_des.h have the rows, over the functions that each file which includes them has of its library.
+// peer_aes.h and peer_des.h have the rows, over the block functions that each file has of its library before it includes them.
 // The layouts are those of crates/frame/specs and crates/session/specs; marks, lengths and counts are not tested.
 #ifndef HERNOTXAK_BENCH_PEER_H
 #define HERNOTXAK_BENCH_PEER_H
@@ -12,6 +12,19 @@ enum { MAC = 8 };
 
 // A block under a key that is new: key schedule and cipher. The text may be where its result goes.
 typedef void block_function(const uint8_t *key, const uint8_t *text, uint8_t *out);
+
+// The work on an AES frame: a payload of n bytes goes from one place to the other, with the key stream added; its MAC is made on the way.
+struct aes_frame {
+    // The MAC's first block before, the MAC after.
+    uint8_t mac[AES_BLOCK];
+    // The IV before, the block of the key stream behind the payload after.
+    uint8_t stream[AES_BLOCK];
+    const uint8_t *from;
+    uint8_t *to;
+    size_t n;
+    // Whether the plain payload is what comes out.
+    int opens;
+};
 
 static void put_answer(uint8_t *out, unsigned refusal, size_t length, unsigned number)
 {

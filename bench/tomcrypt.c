@@ -1,127 +1,68 @@
-// libtomcrypt: portable C throughout, with its own modes.
-#include "peer_aes.h"
-#include "peer_des.h"
+// libtomcrypt: portable C throughout. Its block functions, without its modes.
+#include "peer.h"
 
 #include <tomcrypt.h>
 
-// The numbers under which libtomcrypt's modes know the ciphers. This AES has no decryption, which
-// spares it half of the key schedule; none of the modes here decrypts.
-static int aes;
-static int des;
-
-static const uint8_t zero[DES_BLOCK];
-
 static void start(void)
 {
-    aes = register_cipher(&aes_enc_desc);
-    des = register_cipher(&des_desc);
 }
 
-static void aes_one(const uint8_t *key, const uint8_t *text, uint8_t *out)
+// The library's types lack the const of what is only read.
+static symmetric_key *schedule_of(const symmetric_key *k)
 {
-    symmetric_key k;
-
-    aes_enc_setup(key, AES_BLOCK, 0, &k);
-    aes_enc_ecb_encrypt(text, out, &k);
+    return (symmetric_key *)(uintptr_t)k;
 }
 
-static void aes_one_back(const uint8_t *key, const uint8_t *text, uint8_t *out)
+typedef symmetric_key aes_key;
+
+// The AES that only encrypts spares half of the key schedule.
+static void aes_set(aes_key *k, const uint8_t *key)
 {
-    symmetric_key k;
-
-    aes_setup(key, AES_BLOCK, 0, &k);
-    aes_ecb_decrypt(text, out, &k);
+    aes_enc_setup(key, AES_BLOCK, 0, k);
 }
 
-static void aes_chain(const struct input *in, uint8_t *out)
+static void aes_set_both(aes_key *k, const uint8_t *key)
 {
-    symmetric_key k;
-
-    aes_enc_setup(in->key, AES_BLOCK, 0, &k);
-    memcpy(out, in->iv, AES_BLOCK);
-    for (int i = 0; i < AES_BLOCKS; i++)
-        aes_enc_ecb_encrypt(out, out, &k);
+    aes_setup(key, AES_BLOCK, 0, k);
 }
 
-// A part starts at a block boundary where no byte of the block before it is left over.
-static void mode_ofb(const uint8_t *key, const uint8_t *iv, const struct part *parts, int count)
+#define aes_set_back aes_set_both
+
+static void aes_run(const aes_key *k, const uint8_t *text, uint8_t *out)
 {
-    symmetric_OFB mode;
-
-    ofb_start(aes, iv, key, AES_BLOCK, 0, &mode);
-    for (int i = 0; i < count; i++) {
-        mode.padlen = mode.blocklen;
-        ofb_encrypt(parts[i].text, parts[i].out, parts[i].n, &mode);
-    }
-    ofb_done(&mode);
+    aes_enc_ecb_encrypt(text, out, schedule_of(k));
 }
 
-static void mode_cmac(const uint8_t *key, const uint8_t *text, size_t n, uint8_t *mac)
+static void aes_run_back(const aes_key *k, const uint8_t *text, uint8_t *out)
 {
-    unsigned long mac_n = AES_BLOCK;
-
-    omac_memory(aes, key, AES_BLOCK, text, n, mac, &mac_n);
+    aes_ecb_decrypt(text, out, schedule_of(k));
 }
 
-static void des_one(const uint8_t *key, const uint8_t *text, uint8_t *out)
+// A DES key has both key schedules, whichever is needed.
+typedef symmetric_key des_key;
+
+static void des_set(des_key *k, const uint8_t *key)
 {
-    symmetric_key k;
-
-    des_setup(key, DES_BLOCK, 0, &k);
-    des_ecb_encrypt(text, out, &k);
+    des_setup(key, DES_BLOCK, 0, k);
 }
 
-static void des_one_back(const uint8_t *key, const uint8_t *text, uint8_t *out)
+#define des_set_back des_set
+#define des_set_both des_set
+
+static void des_run(const des_key *k, const uint8_t *text, uint8_t *out)
 {
-    symmetric_key k;
-
-    des_setup(key, DES_BLOCK, 0, &k);
-    des_ecb_decrypt(text, out, &k);
+    des_ecb_encrypt(text, out, schedule_of(k));
 }
 
-static void tdes_setup(const uint8_t *key1, const uint8_t *key2, symmetric_key *k)
+static void des_run_back(const des_key *k, const uint8_t *text, uint8_t *out)
 {
-    uint8_t keys[3 * DES_BLOCK];
-
-    memcpy(keys, key1, DES_BLOCK);
-    memcpy(keys + DES_BLOCK, key2, DES_BLOCK);
-    memcpy(keys + 2 * DES_BLOCK, key1, DES_BLOCK);
-    des3_setup(keys, 3 * DES_BLOCK, 0, k);
+    des_ecb_decrypt(text, out, schedule_of(k));
 }
 
-static void tdes_one(const uint8_t *key1, const uint8_t *key2, const uint8_t *text, uint8_t *out)
-{
-    symmetric_key k;
+#include "peer_chains.h"
 
-    tdes_setup(key1, key2, &k);
-    des3_ecb_encrypt(text, out, &k);
-}
-
-static void tdes_one_back(const uint8_t *key1, const uint8_t *key2, const uint8_t *text, uint8_t *out)
-{
-    symmetric_key k;
-
-    tdes_setup(key1, key2, &k);
-    des3_ecb_decrypt(text, out, &k);
-}
-
-static void mode_cbc(const uint8_t *key, const uint8_t *text, size_t n, uint8_t *out)
-{
-    symmetric_CBC mode;
-
-    cbc_start(des, zero, key, DES_BLOCK, 0, &mode);
-    cbc_encrypt(text, out, n, &mode);
-    cbc_done(&mode);
-}
-
-static void mode_cbc_back(const uint8_t *key, const uint8_t *text, size_t n, uint8_t *out)
-{
-    symmetric_CBC mode;
-
-    cbc_start(des, zero, key, DES_BLOCK, 0, &mode);
-    cbc_decrypt(text, out, n, &mode);
-    cbc_done(&mode);
-}
+#include "peer_aes.h"
+#include "peer_des.h"
 
 const struct contestant tomcrypt = {
     "libtomcrypt " SCRYPT,
