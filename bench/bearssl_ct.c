@@ -1,6 +1,6 @@
-// BearSSL's constant-time code in words of 32 bits: AES with two blocks side by side, and DES. No place that it reads depends on a key or on
-// data. BearSSL's header has these block functions only under its modes, so they are declared here, as its sources have them. The header has
-// no version either: it is given by bench/build.
+// BearSSL's constant-time code in words of 32 bits: AES with two blocks side by side, and DES. No place that it reads depends on a key or
+// on data. BearSSL's header has these block functions only under its modes, so they are declared here, as its sources have them. Nor does
+// the header have a version: bench/build gives it.
 #include "peer.h"
 
 void br_aes_ct_ortho(uint32_t *q);
