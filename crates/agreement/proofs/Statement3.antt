@@ -1,5 +1,5 @@
 -- Statement 3, proved: what two ends with the same derived keys agree on. Assumes nothing.
-use mathlib.Core.Path.{_≡_, refl, sym, ap, _∙_}
+use mathlib.Core.Path.{_≡_, refl, sym, ap, _∙_, subst}
 use mathlib.Core.List.{List}
 use mathlib.Core.Logic.{_↔_, _⊎_, inl, inr, ⊎-elim}
 use Prim.Native.Nat.{ℕ, _+_, _≤_, _<_}
@@ -14,10 +14,10 @@ use Rattle.answer.specs.Outcome.{Outcome, accepted, choose}
 use Rattle.frame.specs.Scheme.{sealed, sealing, framed, responding, sealedSize}
 use Rattle.frame.proofs.Frames.{frames, responds, responds-not, size-some}
 use Rattle.answer.proofs.Refusals.{accepted-zero, refused-number}
-use Rattle.agreement.specs.Agreement.{Fits, Fixed, Inputs, made1A, read1, made2A, read2, made1B, made2B, credentials, End, reader, card, Agreement}
+use Rattle.agreement.specs.Agreement.{Fits, Fixed, Inputs, made1A, read1, made2A, read2, made1B, made2B, credentials, End, reader, card, Agreement, Statement3}
 use Rattle.session.specs.Challenge.{blockSize, underAlpha, underBeta, checking1B, checking2B, sessionKeys, derivingSessionKeys}
 use Rattle.session.specs.Derivation.{Derived, derivation}
-use Rattle.session.proofs.AcceptedDerivation.{Given, derivation-gives}
+use Rattle.session.proofs.AcceptedDerivation.{Given, derivation-gives, same-derivation}
 use Rattle.session.proofs.Exchanges as two
 
 -- the number of an acceptance
@@ -31,7 +31,14 @@ bytes-of o b e = ap (λ (p : Outcome). p .bytes) e
 fixed-block : (n : ℕ) (l : List ℕ) → Fixed n l → Block n l
 fixed-block n l f = record { long = f .0; bytes = f .1 }
 
-module _ (s : ℕ) (keys idm random1 random2 c3 id key : List ℕ) (code : ℕ) (e : two.Ends s keys idm) (i : Inputs s idm random1 random2 c3 id key code) where
+-- both ends have derived d
+module _ (d : Derived) (idm random1 random2 c3 id key : List ℕ) (code : ℕ) (e : two.Ends (d .scheme) (d .bytes) idm) (i : Inputs (d .scheme) idm random1 random2 c3 id key code) where
+  abbrev s : ℕ
+  s = d .scheme
+
+  abbrev keys : List ℕ
+  keys = d .bytes
+
   g1 : Block (blockSize s) random1
   g1 = fixed-block _ _ (i .random1-is)
 
@@ -44,10 +51,10 @@ module _ (s : ℕ) (keys idm random1 random2 c3 id key : List ℕ) (code : ℕ) 
   -- ---- random 1
 
   abbrev A1 : ℕ → Outcome
-  A1 a = made1A s keys idm random1 random2 c3 id key code a
+  A1 a = made1A d d idm random1 random2 c3 id key code a
 
   abbrev R1 : ℕ → ℕ → Outcome
-  R1 a b = read1 s keys idm random1 random2 c3 id key code a b
+  R1 a b = read1 d d idm random1 random2 c3 id key code a b
 
   module _ (a b : ℕ) (fa : Fits (A1 a)) (fb : Fits (R1 a b)) where
     room-a1 : blockSize s ≤ a
@@ -68,8 +75,8 @@ module _ (s : ℕ) (keys idm random1 random2 c3 id key : List ℕ) (code : ℕ) 
     read-1-block : Block (blockSize s) (R1 a b .bytes)
     read-1-block = rw (bytes-of _ _ (card-reads .1)) g1
 
-    reader-accepts : (r : ℕ) → Fits (made1B s keys idm random1 random2 c3 id key code a b r)
-        → (made1B s keys idm random1 random2 c3 id key code a b r .number ≡ 0) × ((x : List ℕ) → (checking1B s keys idm c3 random1 x .number ≡ 0) ↔ (x ≡ made1B s keys idm random1 random2 c3 id key code a b r .bytes))
+    reader-accepts : (r : ℕ) → Fits (made1B d d idm random1 random2 c3 id key code a b r)
+        → (made1B d d idm random1 random2 c3 id key code a b r .number ≡ 0) × ((x : List ℕ) → (checking1B s keys idm c3 random1 x .number ≡ 0) ↔ (x ≡ made1B d d idm random1 random2 c3 id key code a b r .bytes))
     reader-accepts r fr =
         let room : blockSize s ≤ r = two.room-1b s keys idm e c3 g3 (R1 a b .bytes) read-1-block r fr in
         let m = two.answers-1b s keys idm e c3 g3 random1 a b r g1 room-a1 room-b1 room in
@@ -81,10 +88,10 @@ module _ (s : ℕ) (keys idm random1 random2 c3 id key : List ℕ) (code : ℕ) 
   -- ---- random 2
 
   abbrev A2 : ℕ → Outcome
-  A2 a = made2A s keys idm random1 random2 c3 id key code a
+  A2 a = made2A d d idm random1 random2 c3 id key code a
 
   abbrev R2 : ℕ → ℕ → Outcome
-  R2 a b = read2 s keys idm random1 random2 c3 id key code a b
+  R2 a b = read2 d d idm random1 random2 c3 id key code a b
 
   module _ (a b : ℕ) (fa : Fits (A2 a)) (fb : Fits (R2 a b)) where
     room-a2 : blockSize s ≤ a
@@ -105,8 +112,8 @@ module _ (s : ℕ) (keys idm random1 random2 c3 id key : List ℕ) (code : ℕ) 
     read-2 : R2 a b .bytes ≡ random2
     read-2 = bytes-of _ _ (reader-reads .1)
 
-    card-accepts : (r : ℕ) → Fits (made2B s keys idm random1 random2 c3 id key code a b r)
-        → (made2B s keys idm random1 random2 c3 id key code a b r .number ≡ 0) × ((x : List ℕ) → (checking2B s keys idm random2 x .number ≡ 0) ↔ (x ≡ made2B s keys idm random1 random2 c3 id key code a b r .bytes))
+    card-accepts : (r : ℕ) → Fits (made2B d d idm random1 random2 c3 id key code a b r)
+        → (made2B d d idm random1 random2 c3 id key code a b r .number ≡ 0) × ((x : List ℕ) → (checking2B s keys idm random2 x .number ≡ 0) ↔ (x ≡ made2B d d idm random1 random2 c3 id key code a b r .bytes))
     card-accepts r fr =
         let room : blockSize s ≤ r = two.room-2b s keys idm e (R2 a b .bytes) (rw read-2 g2) r fr in
         let m = two.answers-2b s keys idm e c3 g3 random2 a b r g2 room-a2 room-b2 room in
@@ -119,8 +126,7 @@ module _ (s : ℕ) (keys idm random1 random2 c3 id key : List ℕ) (code : ℕ) 
 
   -- for AES random 2 has 16 bytes
   g2-aes : s ≡ 2 → Block 16 random2
-  unfolding blockSize choose
-  g2-aes h = rw h at g2
+  g2-aes h = rw (two.size-of-aes s h) at g2
 
   keys-of : s ≡ 2 → (x : List ℕ) (r : ℕ) → x ≡ random2 → Fits (derivingSessionKeys x r) → derivingSessionKeys x r ≡ accepted 0 (sessionKeys random2)
   keys-of h x r q f =
@@ -136,7 +142,7 @@ module _ (s : ℕ) (keys idm random1 random2 c3 id key : List ℕ) (code : ℕ) 
   -- ---- both ends seal and open with the same credentials
 
   abbrev C : List ℕ → List ℕ
-  C k = credentials s keys idm random1 random2 c3 id key code k
+  C k = credentials d d idm random1 random2 c3 id key code s k
 
   des-credentials : s ≡ 1 → (k k′ : List ℕ) → C k ≡ C k′
   unfolding choose
@@ -145,9 +151,9 @@ module _ (s : ℕ) (keys idm random1 random2 c3 id key : List ℕ) (code : ℕ) 
   common : (k : List ℕ) → (s ≡ 2 → k ≡ sessionKeys random2) → C k ≡ C (sessionKeys random2)
   common k h = ⊎-elim (λ (p : s ≡ 1). des-credentials p k (sessionKeys random2)) (λ (p : s ≡ 2). ap C (h p)) (e .known)
 
-  end-is : (c : List ℕ) → End s keys idm random1 random2 c3 id key code c → c ≡ C (sessionKeys random2)
-  end-is c (reader a b r fa fb fr) = common _ (λ h. bytes-of _ _ (keys-of h (R2 a b .bytes) r (read-2 a b fa fb) (fr h)))
-  end-is c (card r fr) = common _ (λ h. bytes-of _ _ (keys-of h random2 r refl (fr h)))
+  end-is : (t : ℕ) (c : List ℕ) → End d d idm random1 random2 c3 id key code t c → (t ≡ s) × (c ≡ C (sessionKeys random2))
+  end-is t c (reader a b r fa fb fr) = (refl, common _ (λ h. bytes-of _ _ (keys-of h (R2 a b .bytes) r (read-2 a b fa fb) (fr h))))
+  end-is t c (card r fr) = (refl, common _ (λ h. bytes-of _ _ (keys-of h random2 r refl (fr h))))
 
   credentials-are : Fixed (choose (eqb s 1) 8 36) (C (sessionKeys random2))
   unfolding choose
@@ -164,30 +170,34 @@ module _ (s : ℕ) (keys idm random1 random2 c3 id key : List ℕ) (code : ℕ) 
   all-frames : Frames s (C (sessionKeys random2)) id code
   all-frames = frames s (C (sessionKeys random2)) id code (e .known) (credentials-are .0) (credentials-are .1) (i .id-is .0) (i .id-is .1) (i .one)
 
-  module _ (c : List ℕ) (end : End s keys idm random1 random2 c3 id key code c) where
-    here : Frames s c id code
-    here = rw (end-is c end) all-frames
+  module _ (t : ℕ) (c : List ℕ) (end : End d d idm random1 random2 c3 id key code t c) where
+    here : Frames t c id code
+    here = let q = end-is t c end in rw (q .0, q .1) all-frames
 
-    module _ (number room : ℕ) (payload : List ℕ) (h : Domain s number payload) where
-      command-sealed : Fits (sealing s c code number id payload room) → sealing s c code number id payload room ≡ accepted 0 (sealed s c code number id payload)
+    module _ (number room : ℕ) (payload : List ℕ) (h : Domain t number payload) where
+      command-sealed : Fits (sealing t c code number id payload room) → sealing t c code number id payload room ≡ accepted 0 (sealed t c code number id payload)
       command-sealed f =
           ⊎-elim
-          (λ (l : sealedSize s (length payload) ≤ room). here .seals number room payload h l)
-          (λ (l : room < sealedSize s (length payload)). absurd (f (ap (λ (o : Outcome). o .number) (here .seals-not number room payload h l) ∙ refused-number 16)))
-          (le-or-lt (sealedSize s (length payload)) room)
+          (λ (l : sealedSize t (length payload) ≤ room). here .seals number room payload h l)
+          (λ (l : room < sealedSize t (length payload)). absurd (f (ap (λ (o : Outcome). o .number) (here .seals-not number room payload h l) ∙ refused-number 16)))
+          (le-or-lt (sealedSize t (length payload)) room)
 
-      response-sealed : Fits (responding s c code number id payload room) → responding s c code number id payload room ≡ accepted 0 (framed code (sealed s c code number id payload))
+      response-sealed : Fits (responding t c code number id payload room) → responding t c code number id payload room ≡ accepted 0 (framed code (sealed t c code number id payload))
       response-sealed f =
           ⊎-elim
-          (λ (l : sealedSize s (length payload) + 2 ≤ room). responds s c id code here number room payload h l)
-          (λ (l : room < sealedSize s (length payload) + 2).
-          absurd (f (ap (λ (o : Outcome). o .number) (responds-not s c id code here number room payload h (size-some s (length payload)) l) ∙ refused-number 16)))
-          (le-or-lt (sealedSize s (length payload) + 2) room)
+          (λ (l : sealedSize t (length payload) + 2 ≤ room). responds t c id code here number room payload h l)
+          (λ (l : room < sealedSize t (length payload) + 2).
+          absurd (f (ap (λ (o : Outcome). o .number) (responds-not t c id code here number room payload h (size-some t (length payload)) l) ∙ refused-number 16)))
+          (le-or-lt (sealedSize t (length payload) + 2) room)
 
-  same-ends : (c c′ : List ℕ) → End s keys idm random1 random2 c3 id key code c → End s keys idm random1 random2 c3 id key code c′ → c ≡ c′
-  same-ends c c′ x y = end-is c x ∙ sym (end-is c′ y)
+  -- either end's scheme and credentials are those of the other
+  same-ends : (t t′ : ℕ) (c c′ : List ℕ) → End d d idm random1 random2 c3 id key code t c → End d d idm random1 random2 c3 id key code t′ c′ → (t ≡ t′) × (c ≡ c′)
+  same-ends t t′ c c′ x y =
+      let p = end-is t c x in
+      let q = end-is t′ c′ y in
+      (p .0 ∙ sym (q .0), p .1 ∙ sym (q .1))
 
-  pub agrees : Agreement s keys idm random1 random2 c3 id key code
+  pub agrees : Agreement d d idm random1 random2 c3 id key code
   agrees =
       record {
         card-reads-random-1 = card-reads;
@@ -197,8 +207,8 @@ module _ (s : ℕ) (keys idm random1 random2 c3 id key : List ℕ) (code : ℕ) 
         same-session-keys = same-keys;
         commands-are-sealed = command-sealed;
         responses-are-sealed = response-sealed;
-        opens-exactly = λ c c′ x y d room bd f number payload. rw (same-ends c c′ x y) (here c′ y .opens-exactly d room bd f number payload);
-        refuses-exactly = λ c c′ x y d room bd f. rw (same-ends c c′ x y) (here c′ y .refuses-exactly d room bd f);
+        opens-exactly = λ t t′ c c′ x y x′ room bd f number payload. let q = same-ends t t′ c c′ x y in rw (q .0, q .1) (here t′ c′ y .opens-exactly x′ room bd f number payload);
+        refuses-exactly = λ t t′ c c′ x y x′ room bd f. let q = same-ends t t′ c c′ x y in rw (q .0, q .1) (here t′ c′ y .refuses-exactly x′ room bd f);
       }
 
 -- ---- from a derivation that answers 0 at both ends
@@ -211,10 +221,14 @@ ends d idm g h =
     (λ (p : (d .scheme ≡ 2) × (length (d .bytes) ≡ 32)). record { known = inr (p .0); keys-are = rw (p .0) (record { long = p .1; bytes = g .bytes-are }); idm-is = fixed-block 8 idm h })
     (g .known)
 
-pub agreement : (mark room : ℕ) (keys areas services individual : List ℕ) → Bytes keys → Bytes individual → derivation mark keys areas services individual room .number ≡ 0
+-- two derivations of the same inputs, with outputs of any two sizes, each answering 0
+pub statement-3 : (mark room room′ : ℕ) (keys areas services individual : List ℕ) → Bytes keys → Bytes individual
+    → derivation mark keys areas services individual room .number ≡ 0 → derivation mark keys areas services individual room′ .number ≡ 0
     → (idm random1 random2 c3 id key : List ℕ) (code : ℕ) → Inputs (derivation mark keys areas services individual room .scheme) idm random1 random2 c3 id key code
-    → Agreement (derivation mark keys areas services individual room .scheme) (derivation mark keys areas services individual room .bytes) idm random1 random2 c3 id key code
-agreement mark room keys areas services individual bk bi zero idm random1 random2 c3 id key code i =
+    → Statement3 (derivation mark keys areas services individual room) (derivation mark keys areas services individual room′) idm random1 random2 c3 id key code
+statement-3 mark room room′ keys areas services individual bk bi zero zero′ idm random1 random2 c3 id key code i =
     let d : Derived = derivation mark keys areas services individual room in
     let g = derivation-gives mark keys areas services individual bk bi room zero in
-    agrees (d .scheme) (d .bytes) idm random1 random2 c3 id key code (ends d idm g (i .idm-is)) i
+    let q = same-derivation mark keys areas services individual bk bi room room′ zero zero′ in
+    let a = agrees d idm random1 random2 c3 id key code (ends d idm g (i .idm-is)) i in
+    record { same-derivation = q; agreement = subst (λ (c : Derived). Agreement d c idm random1 random2 c3 id key code) q a }

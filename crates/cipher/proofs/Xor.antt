@@ -8,7 +8,7 @@ use lib.Arith.{bin-ind, digits-div, digits-mod}
 use lib.ListN.{length, take, getD, replicate}
 use lib.Dec.{lit<}
 use lib.Bits.{bitXor, differ, xor-step, xor-comm, xor-self, xor-zero-r, xor-lt}
-use Rattle.cipher.specs.Bytes.{Bytes, _⊕_}
+use Rattle.cipher.specs.Bytes.{Bytes, _⊕_, complement}
 
 -- ---- numbers
 
@@ -136,3 +136,9 @@ Bytes-⊕ [] t h k i = lit< tt
 Bytes-⊕ (x ∷ s) [] h k i = lit< tt
 Bytes-⊕ (x ∷ s) (y ∷ t) h k zero = xor-byte x y (h 0) (k 0)
 Bytes-⊕ (x ∷ s) (y ∷ t) h k (suc i) = Bytes-⊕ s t (λ j. h (suc j)) (λ j. k (suc j)) i
+
+-- ---- the complement of a string of n bytes
+
+pub complement-is : (n : ℕ) (s : List ℕ) → length s ≡ n → complement s ≡ s ⊕ replicate n 255
+unfolding complement
+complement-is n s h = ap (λ (k : ℕ). s ⊕ replicate k 255) h

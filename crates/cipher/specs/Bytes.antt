@@ -1,7 +1,7 @@
 -- Byte strings, as lists of numbers: what several of the standards share. Assumes nothing.
 use Prim.Native.Nat.{ℕ, zero, suc, _/_, _%_, _<_}
 use mathlib.Core.List.{List, [], _∷_, _++_}
-use lib.ListN.{getD}
+use lib.ListN.{length, getD, replicate}
 use lib.Bits.{bitXor}
 
 infixl 65 _⊕_
@@ -19,6 +19,10 @@ unfoldable pub _⊕_ : List ℕ → List ℕ → List ℕ
 _⊕_ [] t = []
 _⊕_ (x ∷ s) [] = []
 _⊕_ (x ∷ s) (y ∷ t) = bitXor x y ∷ (s ⊕ t)
+
+-- each bit of each byte turned
+unfoldable pub complement : List ℕ → List ℕ
+complement s = s ⊕ replicate (length s) 255
 
 -- the four bytes of a 32-bit word, highest first
 unfoldable pub wordBytes : ℕ → List ℕ

@@ -7,12 +7,12 @@ use borrow.Author.Tests.{ltb-false, eqb-false}
 use lib.Dec.{eqb}
 use lib.ListN.{length, take, drop, replicate, length-append, length-drop}
 use lib.Seq.{take-at, drop-append-le}
-use Rattle.cipher.specs.Bytes.{_⊕_}
+use Rattle.cipher.specs.Bytes.{_⊕_, complement}
 use Rattle.cipher.specs.Fips46.{desEncrypt}
 use Rattle.cipher.specs.Sp80038a.{cbcEncrypt, onWhole}
-use Rattle.answer.specs.Outcome.{firstOf}
-use Rattle.answer.specs.Outcome.{over}
-use Rattle.frame.specs.Package.{complement, packageCipher, packageMac, packaged, packageRows}
+use Rattle.cipher.proofs.Xor.{complement-is}
+use Rattle.answer.specs.Outcome.{firstOf, over}
+use Rattle.frame.specs.Package.{packageCipher, packageMac, packaged, packageRows}
 use Rattle.answer.specs.Tests.{isnt, both}
 use Rattle.answer.proofs.Rows.{AllFalse, numbered, first-passes, either-false, is-number}
 use Rattle.frame.proofs.Fronts.{in-place, copied-in-place}
@@ -44,11 +44,11 @@ package-passes key plain room k e z =
 
 -- the cipher text under the complemented key stands over o
 pub cipher-written : (key k plain o s last : List ℕ) → length plain % 8 ≡ 0 → length plain ≤ length o → s ≡ take (length o) plain ++ drop (length plain) o
-    → k ≡ key ⊕ replicate 8 255 → last ≡ onWhole 8 (cbcEncrypt (desEncrypt k) 8 (replicate 8 0)) (take (length plain) s) → length last ≡ length (take (length plain) s)
+    → length key ≡ 8 → k ≡ key ⊕ replicate 8 255 → last ≡ onWhole 8 (cbcEncrypt (desEncrypt k) 8 (replicate 8 0)) (take (length plain) s) → length last ≡ length (take (length plain) s)
     → (length (packageCipher key plain) ≡ length plain) × (last ++ drop (length plain) s ≡ over (packageCipher key plain) o)
-unfolding packageCipher complement
-cipher-written key k plain o s last w fits es ek el ll =
-    copied-in-place 8 (cbcEncrypt (desEncrypt (key ⊕ replicate 8 255)) 8 (replicate 8 0)) plain o s last w fits es (rw ek at el) ll
+unfolding packageCipher
+cipher-written key k plain o s last w fits es eight ek el ll =
+    copied-in-place 8 (cbcEncrypt (desEncrypt (complement key)) 8 (replicate 8 0)) plain o s last w fits es (rw (ek ∙ sym (complement-is 8 key eight)) at el) ll
 
 -- its last block
 pub last-block : (key plain o s r : List ℕ) → length (packageCipher key plain) ≡ length plain → 8 ≤ length plain → s ≡ over (packageCipher key plain) o

@@ -3,15 +3,11 @@ use Prim.Native.Nat.{ℕ, _+_, _-_, _%_}
 use mathlib.Core.List.{List, [], _∷_, _++_}
 use lib.Dec.{eqb, ltb}
 use lib.ListN.{length, drop, replicate}
-use Rattle.cipher.specs.Bytes.{_⊕_}
+use Rattle.cipher.specs.Bytes.{complement}
 use Rattle.cipher.specs.Fips46.{desEncrypt}
 use Rattle.cipher.specs.Sp80038a.{cbcEncrypt}
 use Rattle.answer.specs.Outcome.{Outcome, Row, accepted, row, decide}
 use Rattle.answer.specs.Tests.{isnt, either}
-
--- each bit of the key turned
-unfoldable pub complement : List ℕ → List ℕ
-complement key = key ⊕ replicate 8 255
 
 unfoldable pub packageCipher : List ℕ → List ℕ → List ℕ
 packageCipher key plain = cbcEncrypt (desEncrypt (complement key)) 8 (replicate 8 0) plain

@@ -52,6 +52,11 @@ module _ (E D E′ D′ : List ℕ → List ℕ) where
   both true f g = f
   both false f g = g refl
 
+-- a block of the AES scheme
+pub size-of-aes : (s : ℕ) → s ≡ 2 → blockSize s ≡ 16
+unfolding blockSize choose
+size-of-aes s e = rw e
+
 -- ---- the keys of the AES context
 
 module _ (keys idm c3 : List ℕ) (k : Block 32 keys) where

@@ -1,4 +1,6 @@
-use mathlib.Core.Path.{sym}
+use mathlib.Core.Path.{_≡_, sym}
+use lib.ListN.{length}
+use native.Mathlib.Omega.{arith}
 use lib.Seq.{length-take-le}
 use Rattle.frame.proofs.RegistrationPackage.{cipher-written, last-block}
 use borrow.Author.Needs.{needs}
@@ -47,7 +49,8 @@ returns c =
     let a = st .args in
     let p = a .plain .now in
     let o = a .out .now in
-    let q = cipher-written (a .key) _ p o _ _ (st .pre .0) (st .pre .1 .1) (cp .copy .ensures) (x .xor-blocks .ensures) (en .encrypt-des-cbc-zero-iv .ensures .1) (en .encrypt-des-cbc-zero-iv .kept .0) in
+    let eight : length (a .key) ≡ 8 = omega arith in
+    let q = cipher-written (a .key) _ p o _ _ (st .pre .0) (st .pre .1 .1) (cp .copy .ensures) eight (x .xor-blocks .ensures) (en .encrypt-des-cbc-zero-iv .ensures .1) (en .encrypt-des-cbc-zero-iv .kept .0) in
     (last-block (a .key) p o _ _ (q .0) (st .pre .1 .0) (q .1) (c .eight .ensures .1 (search needs)), q .0, q .1)
 
 pub package-mac-spec : {M : Type 1} → statement M
