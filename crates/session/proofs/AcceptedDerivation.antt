@@ -16,7 +16,7 @@ use Rattle.answer.specs.Outcome.{Row, choose}
 use Rattle.answer.specs.Tests.{either}
 use Rattle.session.specs.Entries.{Entry, entries, nodes, has}
 use Rattle.session.specs.ServiceCode.{bearing}
-use Rattle.session.specs.Derivation.{Derived, turnedDown, derived, byRows, needing, keyOf, keysOf, groupDes, userDes, derivedDes, chainStart, groupAes, individualKey, derivedAes, target, derivedBy, chosen, derivedFor, deriveRows, derivedBefore16, withRoom, derivation}
+use Rattle.session.specs.Derivation.{keyLength, Derived, turnedDown, derived, byRows, needing, keyOf, keysOf, groupDes, userDes, derivedDes, chainStart, groupAes, individualKey, derivedAes, target, derivedBy, chosen, derivedFor, deriveRows, derivedBefore16, withRoom, derivation}
 use Rattle.session.specs.inner.DerivationSteps.{missing}
 use Rattle.session.proofs.Gathering.{needing-missing, missing-first, missing-shape, keysOf-one, keys-long, keys-bytes}
 use Rattle.session.proofs.DerivationSteps.{guard-passed}
@@ -90,9 +90,10 @@ own-block individual b h = go (eqb (length individual) 0) h
 module _ (keys : List ℕ) (b : Bytes keys) (areas services individual : List ℕ) where
   -- the system key
   system-block : (ns : List ℕ) → missing (entries keys) 1 (0xFFFF ∷ ns) .number ≡ 0 → Block 8 (keyOf (entries keys) 1 0xFFFF)
+  unfolding keyLength choose
   system-block ns h =
       let z : missing (entries keys) 1 (0xFFFF ∷ []) .number ≡ 0 = missing-first (entries keys) 1 (0xFFFF ∷ []) ns h in
-      rw (← keysOf-one (entries keys) 1 0xFFFF) (record { long = keys-long keys 1 (lit≤ tt) (0xFFFF ∷ []) z; bytes = keys-bytes keys 1 (lit≤ tt) (0xFFFF ∷ []) z b })
+      rw (← keysOf-one (entries keys) 1 0xFFFF) (record { long = keys-long keys 1 (0xFFFF ∷ []) z; bytes = keys-bytes keys 1 (0xFFFF ∷ []) z b })
 
   pub des-gives : Gives (derivedDes (entries keys) areas services individual)
   unfolding derivedDes groupDes userDes
@@ -103,11 +104,11 @@ module _ (keys : List ℕ) (b : Bytes keys) (areas services individual : List �
 
   module _ (o : Bytes individual) (fits : either (eqb (length individual) 0) (eqb (length individual) 16) ≡ true) where
     pub aes-gives : Gives (derivedAes (entries keys) areas services individual)
-    unfolding derivedAes groupAes
+    unfolding derivedAes groupAes keyLength choose
     aes-gives =
         gives-needing (entries keys) 2 (areas ++ services) _
         (λ z. gives-rows _ _
-        (λ _. let k : Block (length (areas ++ services) * 16) (keysOf (entries keys) 2 (areas ++ services)) = record { long = keys-long keys 2 (lit≤ tt) (areas ++ services) z; bytes = keys-bytes keys 2 (lit≤ tt) (areas ++ services) z b } in
+        (λ _. let k : Block (length (areas ++ services) * 16) (keysOf (entries keys) 2 (areas ++ services)) = record { long = keys-long keys 2 (areas ++ services) z; bytes = keys-bytes keys 2 (areas ++ services) z b } in
         gives-aes _ (joined 16 _ _ (aes-under-block (length (areas ++ services)) (keysOf (entries keys) 2 (areas ++ services)) chainStart k start-block) (own-block individual o fits))))
 
     by-gives : (scheme : ℕ) → Gives (derivedBy scheme (entries keys) areas services individual)

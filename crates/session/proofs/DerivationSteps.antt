@@ -20,7 +20,7 @@ use Rattle.answer.proofs.Rows.{either-false, isnt-false, numbered, first-passes
 use Rattle.frame.proofs.DesOpens.{rest-part}
 use Rattle.session.specs.Entries.{Entry, entries, nodes, has}
 use Rattle.session.specs.ServiceCode.{bearing}
-use Rattle.session.specs.Derivation.{Derived, Derives, turnedDown, derived, byRows, needing, keyOf, keysOf, groupDes, userDes, derivedDes, chainStart, groupAes, individualKey, derivedAes, target, derivedBy, chosen, derivedFor, lengthsWrong, deriveRows, derivedBefore16, withRoom, derivation}
+use Rattle.session.specs.Derivation.{keyLength, Derived, Derives, turnedDown, derived, byRows, needing, keyOf, keysOf, groupDes, userDes, derivedDes, chainStart, groupAes, individualKey, derivedAes, target, derivedBy, chosen, derivedFor, lengthsWrong, deriveRows, derivedBefore16, withRoom, derivation}
 use Rattle.session.specs.inner.DerivationSteps.{Refuses, Chooses, missing, Holds, desRows, chainDes, bearingDes}
 use Rattle.session.specs.declared.keys.Choice.{Choice}
 use Rattle.session.specs.declared.keys.DerivedAuthKeys.{DerivedAuthKeys}
@@ -207,11 +207,13 @@ module _ (keys areas services : List ℕ) (g : Gathered) (w : List ℕ) (s : Hol
     all-keys = s .bytes z ∙ ap (λ (l : List ℕ). keyOf (entries keys) 1 0xFFFF ++ l) (keysOf-append (entries keys) 1 areas services)
 
     system-long : length (keyOf (entries keys) 1 0xFFFF) ≡ 8
+    unfolding keyLength choose
     system-long =
-        ap length (sym (keysOf-one (entries keys) 1 0xFFFF)) ∙ keys-long keys 1 (lit≤ tt) (0xFFFF ∷ []) (missing-first (entries keys) 1 (0xFFFF ∷ []) (areas ++ services) all-there)
+        ap length (sym (keysOf-one (entries keys) 1 0xFFFF)) ∙ keys-long keys 1 (0xFFFF ∷ []) (missing-first (entries keys) 1 (0xFFFF ∷ []) (areas ++ services) all-there)
 
     areas-long : length (keysOf (entries keys) 1 areas) ≡ length areas * 8
-    areas-long = keys-long keys 1 (lit≤ tt) areas (missing-first (entries keys) 1 areas services (missing-rest (entries keys) 1 (0xFFFF ∷ []) (areas ++ services) all-there))
+    unfolding keyLength choose
+    areas-long = keys-long keys 1 areas (missing-first (entries keys) 1 areas services (missing-rest (entries keys) 1 (0xFFFF ∷ []) (areas ++ services) all-there))
 
     -- the keys of the areas end within
     pub middle-within : 8 + length areas * 8 ≤ length (take (g .size) w)
@@ -252,7 +254,7 @@ module _ (keys areas services individual : List ℕ) (g : Gathered) (w : List �
     size-is : g .size ≡ length (areas ++ services) * 16
     size-is =
         let i = s .within in
-        sym (length-take-le (g .size) w i) ∙ ap length (s .bytes z) ∙ keys-long keys 2 (lit≤ tt) (areas ++ services) (sym (s .number) ∙ z)
+        sym (length-take-le (g .size) w i) ∙ ap length (s .bytes z) ∙ keys-long keys 2 (areas ++ services) (sym (s .number) ∙ z)
 
     pub aes-none : (out : List ℕ) → g .size ≡ 0 → Refuses 3 0 r → Derives (withRoom room (derivedAes (entries keys) areas services individual)) r out out
     unfolding firstOf choose

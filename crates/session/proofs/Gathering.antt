@@ -7,7 +7,7 @@ use native.Mathlib.Nat.{suc-mul}
 use native.Mathlib.Numerals.{add-one}
 use native.Mathlib.Omega.{arith}
 use borrow.Author.Tests.{eq-eqb, ne-eqb, ltb-true}
-use lib.Dec.{eqb}
+use lib.Dec.{lit≤, eqb}
 use lib.ListN.{length, take, drop, getD, length-append, length-drop}
 use lib.Seq.{drop-drop, take-take, take-at, take-suc, take-all, length-take-le}
 use Rattle.cipher.specs.Bytes.{Bytes}
@@ -15,7 +15,7 @@ use Rattle.cipher.proofs.ByteLists.{Bytes-nil, Bytes-append, Bytes-take, Bytes-
 use Rattle.cipher.proofs.Copies.{length-part, part-of, stored}
 use Rattle.answer.specs.Outcome.{choose}
 use Rattle.session.specs.Entries.{Entry, entryOf, firstEntries, entries, place, has, keyAt}
-use Rattle.session.specs.Derivation.{Derived, turnedDown, needing, lacks, keyOf, keysOf}
+use Rattle.session.specs.Derivation.{other, keyLength, Derived, turnedDown, needing, lacks, keyOf, keysOf}
 use Rattle.session.specs.inner.DerivationSteps.{missing, Holds}
 use Rattle.session.specs.declared.keys.Gathered.{Gathered}
 use Rattle.session.proofs.KeySearch.{length-entries}
@@ -30,30 +30,42 @@ key-at (suc n) l (suc p) h =
     let e : 19 + (p * 19 + 3) ≡ suc p * 19 + 3 = omega arith in
     key-at n (drop 19 l) p (omega arith) ∙ ap (take 16) (drop-drop (p * 19 + 3) 19 l ∙ ap (λ (k : ℕ). drop k l) e)
 
-module _ (keys : List ℕ) (a n : ℕ) (small : a ≤ 2) where
+-- an entry has room for a key
+pub length-most : (a : ℕ) → keyLength a ≤ 16
+unfolding keyLength choose
+length-most a = go (eqb a 1)
+  where
+    go : (t : Bool) → choose t 8 16 ≤ 16
+    go true = lit≤ tt
+    go false = lit≤ tt
+
+module _ (keys : List ℕ) (a n : ℕ) where
   module _ (p : ℕ) (e : p ≡ place (entries keys) n a) (h : p < length keys / 19) where
-    pub key-is : keyOf (entries keys) a n ≡ take (a * 8) (drop (p * 19 + 3) keys)
+    pub key-is : keyOf (entries keys) a n ≡ take (keyLength a) (drop (p * 19 + 3) keys)
     unfolding keyOf entries
     key-is =
-        let w : a * 8 ≤ 16 = omega arith in
-        ap (take (a * 8)) (ap (keyAt (firstEntries (length keys / 19) keys)) (sym e) ∙ key-at (length keys / 19) keys p h) ∙ take-take (a * 8) 16 (drop (p * 19 + 3) keys) w
+        ap (take (keyLength a)) (ap (keyAt (firstEntries (length keys / 19) keys)) (sym e) ∙ key-at (length keys / 19) keys p h) ∙ take-take (keyLength a) 16 (drop (p * 19 + 3) keys) (length-most a)
 
-    pub key-within : p * 19 + 3 + a * 8 ≤ length keys
-    key-within = omega arith
+    pub key-within : p * 19 + 3 + keyLength a ≤ length keys
+    key-within = omega (arith, length-most a)
 
-    pub key-long : length (keyOf (entries keys) a n) ≡ a * 8
-    key-long = ap length key-is ∙ length-part keys (p * 19 + 3) (a * 8) key-within
+    pub key-long : length (keyOf (entries keys) a n) ≡ keyLength a
+    key-long = ap length key-is ∙ length-part keys (p * 19 + 3) (keyLength a) key-within
 
   placed : has (entries keys) n a ≡ true → place (entries keys) n a < length keys / 19
   unfolding has
   placed t = let l = length-entries keys in ltb-true (place (entries keys) n a) (length keys / 19) (rw l at t)
 
-  pub has-long : has (entries keys) n a ≡ true → length (keyOf (entries keys) a n) ≡ a * 8
+  pub has-long : has (entries keys) n a ≡ true → length (keyOf (entries keys) a n) ≡ keyLength a
   has-long t = key-long (place (entries keys) n a) refl (placed t)
 
-pub Bytes-key : (keys : List ℕ) (a n : ℕ) → a ≤ 2 → has (entries keys) n a ≡ true → Bytes keys → Bytes (keyOf (entries keys) a n)
-Bytes-key keys a n small t b =
-    rw (key-is keys a n small (place (entries keys) n a) refl (placed keys a n small t)) (Bytes-take (a * 8) (drop (place (entries keys) n a * 19 + 3) keys) (Bytes-drop (place (entries keys) n a * 19 + 3) keys b))
+pub Bytes-key : (keys : List ℕ) (a n : ℕ) → has (entries keys) n a ≡ true → Bytes keys → Bytes (keyOf (entries keys) a n)
+Bytes-key keys a n t b =
+    rw (key-is keys a n (place (entries keys) n a) refl (placed keys a n t)) (Bytes-take (keyLength a) (drop (place (entries keys) n a * 19 + 3) keys) (Bytes-drop (place (entries keys) n a * 19 + 3) keys b))
+
+-- what was asked of the other algorithm
+pub lacking-has : (es : List Entry) (n b : ℕ) (t : Bool) (a : ℕ) → b ≡ other a → t ≡ has es n b → has es n (other a) ≡ t
+lacking-has es n b t a e h = sym (h ∙ ap (has es n) e)
 
 -- ---- the first node that lacks its key
 
@@ -73,7 +85,7 @@ module _ (es : List Entry) (a : ℕ) where
       → choose b o (lacks es n a) ≡ choose (eqb (choose b m (lacks es n a) .number) 0) d (choose b m (lacks es n a))
   unfolding choose lacks
   needing-at true n m d o e = e
-  needing-at false n m d o e = sym (lacks-at (has es n (3 - a)) n d)
+  needing-at false n m d o e = sym (lacks-at (has es n (other a)) n d)
 
   -- what is needed goes by what is missing
   pub needing-missing : (ns : List ℕ) (d : Derived) → needing es a ns d ≡ choose (eqb (missing es a ns .number) 0) d (missing es a ns)
@@ -97,7 +109,7 @@ module _ (es : List Entry) (a : ℕ) where
   shape-at : (b : Bool) (n : ℕ) (m : Derived) → m ≡ turnedDown (m .number) (m .node) → choose b m (lacks es n a) ≡ turnedDown (choose b m (lacks es n a) .number) (choose b m (lacks es n a) .node)
   unfolding choose lacks
   shape-at true n m e = e
-  shape-at false n m e = lacks-shape (has es n (3 - a)) n
+  shape-at false n m e = lacks-shape (has es n (other a)) n
 
   pub missing-shape : (ns : List ℕ) → missing es a ns ≡ turnedDown (missing es a ns .number) (missing es a ns .node)
   unfolding needing missing turnedDown
@@ -119,7 +131,7 @@ module _ (es : List Entry) (a : ℕ) where
 
   pub lacks-number : (n : ℕ) → lacks es n a .number ≡ 0 → ⊥
   unfolding lacks choose turnedDown
-  lacks-number n h = go (has es n (3 - a)) h
+  lacks-number n h = go (has es n (other a)) h
     where
       go : (b : Bool) → choose b (turnedDown 5 0) (turnedDown 4 n) .number ≡ 0 → ⊥
       go true e = omega arith
@@ -192,19 +204,19 @@ module _ (es : List Entry) (a : ℕ) where
             bytes = λ _. rw l (c ∙ ap₂ (λ (x y : List ℕ). x ++ y) (s .bytes z) (key ∙ sym (keysOf-one es a n)) ∙ sym (keysOf-append es a ns (n ∷ [])));
           }
 
--- the key at place p was copied behind the others
-module _ (keys : List ℕ) (a n p : ℕ) (small : a ≤ 2) (e : p ≡ place (entries keys) n a) (h : p < length keys / 19) (t : has (entries keys) n a ≡ true)
+-- the key at place p was copied behind the others; v is its length
+module _ (keys : List ℕ) (a n p v : ℕ) (ev : v ≡ keyLength a) (e : p ≡ place (entries keys) n a) (h : p < length keys / 19) (t : has (entries keys) n a ≡ true)
     (ns : List ℕ) (g : Gathered) (w : List ℕ) (s : Holds (entries keys) a ns g w) (z : g .number ≡ 0) (room : g .size + 16 ≤ length w) (r : Gathered) where
-  pub holds-stored : (last : List ℕ) → r .number ≡ 0 → r .node ≡ 0 → r .size ≡ g .size + a * 8
-      → last ≡ take (length (take (g .size + a * 8 - g .size) (drop (g .size) w))) (take (p * 19 + 3 + a * 8 - (p * 19 + 3)) (drop (p * 19 + 3) keys))
-      ++ drop (length (take (p * 19 + 3 + a * 8 - (p * 19 + 3)) (drop (p * 19 + 3) keys))) (take (g .size + a * 8 - g .size) (drop (g .size) w))
-      → Holds (entries keys) a (ns ++ (n ∷ [])) r (take (g .size) w ++ (last ++ drop (g .size + a * 8 - g .size) (drop (g .size) w)))
+  pub holds-stored : (last : List ℕ) → r .number ≡ 0 → r .node ≡ 0 → r .size ≡ g .size + v
+      → last ≡ take (length (take (g .size + v - g .size) (drop (g .size) w))) (take (p * 19 + 3 + v - (p * 19 + 3)) (drop (p * 19 + 3) keys))
+      ++ drop (length (take (p * 19 + 3 + v - (p * 19 + 3)) (drop (p * 19 + 3) keys))) (take (g .size + v - g .size) (drop (g .size) w))
+      → Holds (entries keys) a (ns ++ (n ∷ [])) r (take (g .size) w ++ (last ++ drop (g .size + v - g .size) (drop (g .size) w)))
   holds-stored last i j l q =
-      let b : List ℕ = take (p * 19 + 3 + a * 8 - (p * 19 + 3)) (drop (p * 19 + 3) keys) in
-      let m : g .size + a * 8 ≤ length w = omega arith in
-      let k : b ≡ keyOf (entries keys) a n = part-of keys (p * 19 + 3) (a * 8) ∙ sym (key-is keys a n small p e h) in
-      let d : length b ≡ a * 8 = ap length k ∙ key-long keys a n small p e h in
-      holds-put (entries keys) a ns g w s z n r b _ (a * 8) t i j l m k d (stored w (g .size) (a * 8) m b last q d)
+      let b : List ℕ = take (p * 19 + 3 + v - (p * 19 + 3)) (drop (p * 19 + 3) keys) in
+      let m : g .size + v ≤ length w = omega (arith, length-most a) in
+      let k : b ≡ keyOf (entries keys) a n = part-of keys (p * 19 + 3) v ∙ ap (λ (x : ℕ). take x (drop (p * 19 + 3) keys)) ev ∙ sym (key-is keys a n p e h) in
+      let d : length b ≡ v = ap length k ∙ key-long keys a n p e h ∙ sym ev in
+      holds-put (entries keys) a ns g w s z n r b _ v t i j l m k d (stored w (g .size) v m b last q d)
 
 -- the keys of the first i nodes of a list were put behind those of g₀
 module _ (es : List Entry) (a : ℕ) (list : List ℕ) (g₀ : Gathered) (w₀ : List ℕ) where
@@ -237,15 +249,15 @@ module _ (es : List Entry) (a : ℕ) (list : List ℕ) (g₀ : Gathered) (w₀ :
         (omega arith, λ ns t. rw (take-all i list h) at (s .holds ns t))
 
 -- the keys of all nodes, each as long as its algorithm wants
-module _ (keys : List ℕ) (a : ℕ) (small : a ≤ 2) where
+module _ (keys : List ℕ) (a : ℕ) where
   long-at : (n : ℕ) (ns : List ℕ) (b : Bool) → has (entries keys) n a ≡ b → choose b (missing (entries keys) a ns) (lacks (entries keys) n a) .number ≡ 0
-      → (missing (entries keys) a ns .number ≡ 0 → length (keysOf (entries keys) a ns) ≡ length ns * (a * 8)) → length (keyOf (entries keys) a n ++ keysOf (entries keys) a ns) ≡ suc (length ns) * (a * 8)
+      → (missing (entries keys) a ns .number ≡ 0 → length (keysOf (entries keys) a ns) ≡ length ns * (keyLength a)) → length (keyOf (entries keys) a n ++ keysOf (entries keys) a ns) ≡ suc (length ns) * (keyLength a)
   unfolding choose
   long-at n ns true t h f =
-      length-append (keyOf (entries keys) a n) (keysOf (entries keys) a ns) ∙ ap₂ (λ (x y : ℕ). x + y) (has-long keys a n small t) (f h) ∙ omega (arith, suc-mul (length ns) (a * 8))
+      length-append (keyOf (entries keys) a n) (keysOf (entries keys) a ns) ∙ ap₂ (λ (x y : ℕ). x + y) (has-long keys a n t) (f h) ∙ omega (arith, suc-mul (length ns) (keyLength a))
   long-at n ns false t h f = absurd (lacks-number (entries keys) a n h)
 
-  pub keys-long : (ns : List ℕ) → missing (entries keys) a ns .number ≡ 0 → length (keysOf (entries keys) a ns) ≡ length ns * (a * 8)
+  pub keys-long : (ns : List ℕ) → missing (entries keys) a ns .number ≡ 0 → length (keysOf (entries keys) a ns) ≡ length ns * (keyLength a)
   unfolding keysOf missing needing
   keys-long [] h = omega arith
   keys-long (n ∷ ns) h = long-at n ns (has (entries keys) n a) refl h (keys-long ns)
@@ -253,7 +265,7 @@ module _ (keys : List ℕ) (a : ℕ) (small : a ≤ 2) where
   bytes-at : (n : ℕ) (ns : List ℕ) (b : Bool) → has (entries keys) n a ≡ b → choose b (missing (entries keys) a ns) (lacks (entries keys) n a) .number ≡ 0 → Bytes keys
       → (missing (entries keys) a ns .number ≡ 0 → Bytes (keysOf (entries keys) a ns)) → Bytes (keyOf (entries keys) a n ++ keysOf (entries keys) a ns)
   unfolding choose
-  bytes-at n ns true t h b f = Bytes-append (keyOf (entries keys) a n) (keysOf (entries keys) a ns) (Bytes-key keys a n small t b) (f h)
+  bytes-at n ns true t h b f = Bytes-append (keyOf (entries keys) a n) (keysOf (entries keys) a ns) (Bytes-key keys a n t b) (f h)
   bytes-at n ns false t h b f = absurd (lacks-number (entries keys) a n h)
 
   pub keys-bytes : (ns : List ℕ) → missing (entries keys) a ns .number ≡ 0 → Bytes keys → Bytes (keysOf (entries keys) a ns)

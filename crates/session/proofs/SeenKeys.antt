@@ -3,7 +3,7 @@
 use mathlib.Core.Path.{_≡_, refl, sym, ap, ap₂, _∙_}
 use mathlib.Core.Bool.{Bool, true, false}
 use mathlib.Core.List.{List, [], _∷_, _++_}
-use Prim.Native.Nat.{ℕ, zero, suc, _-_, _*_, _≤_, _<_}
+use Prim.Native.Nat.{ℕ, zero, suc, _≤_}
 use native.Mathlib.Omega.{arith}
 use borrow.Author.Tests.{ltb-false, le-ltb}
 use lib.Dec.{eqb, ltb}
@@ -15,7 +15,7 @@ use Rattle.cipher.specs.Fold.{underEach}
 use Rattle.answer.specs.Outcome.{choose, firstOf}
 use Rattle.session.specs.Entries.{Entry, entries, nodes, place, has, keyAt}
 use Rattle.session.specs.ServiceCode.{bearing}
-use Rattle.session.specs.Derivation.{Derived, turnedDown, derived, byRows, lacks, needing, keyOf, keysOf, groupDes, userDes, derivedDes, groupAes, chainStart, derivedAes, target, derivedBy, chosen, derivedFor, deriveRows, derivedBefore16, withRoom, derivation}
+use Rattle.session.specs.Derivation.{other, keyLength, Derived, turnedDown, derived, byRows, lacks, needing, keyOf, keysOf, groupDes, userDes, derivedDes, groupAes, chainStart, derivedAes, target, derivedBy, chosen, derivedFor, deriveRows, derivedBefore16, withRoom, derivation}
 use Rattle.session.proofs.DerivationSteps.{rows-pass}
 
 -- two lists of entries in which each node and algorithm is there in both or in neither, and has the same key where it is there
@@ -36,7 +36,7 @@ take-nothing (suc n) = refl
 
 pub no-key : (es : List Entry) (node algorithm : ℕ) → has es node algorithm ≡ false → keyOf es algorithm node ≡ []
 unfolding has keyOf
-no-key es node algorithm h = rw (key-beyond es (place es node algorithm) (ltb-false _ _ h)) (take-nothing (algorithm * 8))
+no-key es node algorithm h = rw (key-beyond es (place es node algorithm) (ltb-false _ _ h)) (take-nothing (keyLength algorithm))
 
 module _ (es fs : List Entry) (same : Alike es fs) where
   -- whether it is there or not
@@ -54,7 +54,7 @@ module _ (es fs : List Entry) (same : Alike es fs) where
 
   same-lack : (node algorithm : ℕ) → lacks es node algorithm ≡ lacks fs node algorithm
   unfolding lacks
-  same-lack node algorithm = ap (λ (t : Bool). choose t (turnedDown 5 0) (turnedDown 4 node)) (same .there node (3 - algorithm))
+  same-lack node algorithm = ap (λ (t : Bool). choose t (turnedDown 5 0) (turnedDown 4 node)) (same .there node (other algorithm))
 
   same-needing : (algorithm : ℕ) (ns : List ℕ) (d : Derived) → needing es algorithm ns d ≡ needing fs algorithm ns d
   unfolding needing

@@ -1,5 +1,5 @@
 -- Derivation of the keys of an authentication: the keys of areas and services, each in turn, encrypt a block. Assumes nothing.
-use Prim.Native.Nat.{ℕ, _+_, _-_, _*_, _%_}
+use Prim.Native.Nat.{ℕ, _%_}
 use mathlib.Core.Path.{_≡_}
 use mathlib.Core.Bool.{Bool}
 use mathlib.Core.List.{List, [], _∷_, _++_}
@@ -40,18 +40,24 @@ DES = 1
 abbrev pub AES : ℕ
 AES = 2
 
+unfoldable pub other : ℕ → ℕ
+other algorithm = choose (eqb algorithm DES) AES DES
+
 -- a node without the key that it needs: 5 if it has one of the other algorithm, else 4 with the node
 unfoldable pub lacks : List Entry → ℕ → ℕ → Derived
-lacks es node algorithm = choose (has es node (3 - algorithm)) (turnedDown 5 0) (turnedDown 4 node)
+lacks es node algorithm = choose (has es node (other algorithm)) (turnedDown 5 0) (turnedDown 4 node)
 
 -- the first of the nodes that lacks its key decides; where none does, d
 unfoldable pub needing : List Entry → ℕ → List ℕ → Derived → Derived
 needing es algorithm [] d = d
 needing es algorithm (n ∷ ns) d = choose (has es n algorithm) (needing es algorithm ns d) (lacks es n algorithm)
 
--- a key has 8 bytes for DES and 16 for AES
+-- of an entry's 16 bytes DES uses the first 8
+unfoldable pub keyLength : ℕ → ℕ
+keyLength algorithm = choose (eqb algorithm DES) 8 16
+
 unfoldable pub keyOf : List Entry → ℕ → ℕ → List ℕ
-keyOf es algorithm node = take (algorithm * 8) (keyAt es (place es node algorithm))
+keyOf es algorithm node = take (keyLength algorithm) (keyAt es (place es node algorithm))
 
 -- the keys of the nodes, one behind the other
 unfoldable pub keysOf : List Entry → ℕ → List ℕ → List ℕ

@@ -9,7 +9,7 @@ ghost use lib.Dec.{eqb, ltb};
 ghost use lib.ListN.{length, take, drop};
 ghost use Rattle.answer.specs.Outcome.{firstOf};
 ghost use Rattle.answer.specs.Tests.{isnt, either};
-ghost use Rattle.session.specs.Derivation.{Derives, lacks, derived, derivedDes, individualKey, derivedAes, last, target, derivedFor, lengthsWrong, deriveRows, derivation, withRoom};
+ghost use Rattle.session.specs.Derivation.{Derives, other, keyLength, lacks, derived, derivedDes, individualKey, derivedAes, last, target, derivedFor, lengthsWrong, deriveRows, derivation, withRoom};
 ghost use Rattle.session.specs.inner.DerivationSteps.{Refuses, Chooses, Holds, desRows, chainDes, bearingDes};
 ghost use Rattle.session.specs.Entries.{entryOf, entries, nodes, isFor, place, has, unknownAlgorithm, twice};
 ghost use Rattle.session.specs.ServiceCode.{bearing};
@@ -495,13 +495,30 @@ fn nothing_gathered() -> Gathered
     }
 }
 
+fn other_algorithm(algorithm: u8) -> u8
+    ensures { λ r. ⌜ r ≡ other algorithm ⌝ }
+{
+    if algorithm == frame::DES {
+        return frame::AES128;
+    }
+    frame::DES
+}
+
+// How many of an entry's 16 key bytes an algorithm uses.
+fn key_length(algorithm: u8) -> usize
+    ensures { λ r. ⌜ (r ≡ keyLength algorithm) × (r ≤ 16) ⌝ }
+{
+    if algorithm == frame::DES {
+        return 8;
+    }
+    16
+}
+
 // 5 for a node that has a key of the other algorithm, else 4 with the node.
 fn lacking(keys: &[u8], algorithm: u8, node: u16) -> Gathered
-    requires { ⌜ algorithm ≤ 2 ⌝ }
     ensures { λ r. ⌜ (r .number ≡ lacks (entries (now (keys .entry))) node algorithm .number) × (r .node ≡ lacks (entries (now (keys .entry))) node algorithm .node) × (r .size ≡ 0) ⌝ }
 {
-    let other = 3 - algorithm;
-    if has_key(keys, node, other) {
+    if has_key(keys, node, other_algorithm(algorithm)) {
         return Gathered {
             number: 5,
             node: 0,
@@ -523,7 +540,6 @@ fn gather_one(
     node: u16,
     work: &mut [u8],
 ) -> Gathered
-    requires { ⌜ algorithm ≤ 2 ⌝ }
     requires { ⌜ gathered .size + 16 ≤ length (now work) ⌝ }
     ensures { λ r. ⌜ (r .size ≤ gathered .size + 16) × ((ns : List ℕ) → Holds (entries (now (keys .entry))) algorithm ns gathered (now (work .entry)) → Holds (entries (now (keys .entry))) algorithm (ns ++ (node ∷ [])) r (now (work .exit))) ⌝ }
 {
@@ -535,7 +551,7 @@ fn gather_one(
     if place == keys.len() / 19 {
         return lacking(keys, algorithm, node);
     }
-    let width = algorithm as usize * 8;
+    let width = key_length(algorithm);
     let key = place * 19 + 3;
     let key_end = key + width;
     let at = gathered.size;
@@ -550,7 +566,6 @@ fn gather_one(
 
 // Puts the keys of nodes one behind the other. The first node that lacks its key decides: a refusal stays.
 fn gather(gathered: Gathered, keys: &[u8], algorithm: u8, list: &[u16], work: &mut [u8]) -> Gathered
-    requires { ⌜ algorithm ≤ 2 ⌝ }
     requires { ⌜ gathered .size + length (now list) * 16 ≤ length (now work) ⌝ }
     ensures { λ r. ⌜ (r .size ≤ gathered .size + length (now (list .entry)) * 16) × ((ns : List ℕ) → Holds (entries (now (keys .entry))) algorithm ns gathered (now (work .entry)) → Holds (entries (now (keys .entry))) algorithm (ns ++ now (list .entry)) r (now (work .exit))) ⌝ }
 {

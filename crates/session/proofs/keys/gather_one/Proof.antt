@@ -23,20 +23,20 @@ returns-2 c =
     let f = i .before in
     (omega arith, λ ns s. holds-lacks _ _ ns _ _ s (f .before .if1 .left) _ _ (has-none _ _ _ _ (f .find-key .ensures) (i .if2 .taken)) (l .0) (l .1) (l .2))
 
-mul-width : tie.Need-mul-width
-mul-width c = search needs
+key-length-requires : tie.Need-key-length-requires
+key-length-requires c κs = search needs
 
 mul-key : tie.Need-mul-key
-mul-key c = let h = has-one _ _ _ _ (c .before .find-key .ensures) (c .if2 .left) .0 in omega arith
+mul-key c = let h = has-one _ _ _ _ (c .before .before .find-key .ensures) (c .before .if2 .left) .0 in omega (arith, h, c .key-length .ensures .1)
 
 add-key : tie.Need-add-key
-add-key c = let h = has-one _ _ _ _ (c .before .find-key .ensures) (c .if2 .left) .0 in omega arith
+add-key c = let h = has-one _ _ _ _ (c .before .before .find-key .ensures) (c .before .if2 .left) .0 in omega (arith, h, c .key-length .ensures .1)
 
 add-key-end : tie.Need-add-key-end
-add-key-end c = let h = has-one _ _ _ _ (c .before .find-key .ensures) (c .if2 .left) .0 in omega arith
+add-key-end c = let h = has-one _ _ _ _ (c .before .before .find-key .ensures) (c .before .if2 .left) .0 in omega (arith, h, c .key-length .ensures .1)
 
 add-end : tie.Need-add-end
-add-end c = search needs
+add-end c = omega (arith, c .key-length .ensures .1)
 
 sub-copy : tie.Need-sub-copy
 sub-copy c = search needs
@@ -45,7 +45,7 @@ part-copy-start : tie.Need-part-copy-start
 part-copy-start c = search needs
 
 part-copy-end : tie.Need-part-copy-end
-part-copy-end c = let h = has-one _ _ _ _ (c .before .find-key .ensures) (c .if2 .left) .0 in omega arith
+part-copy-end c = let h = has-one _ _ _ _ (c .before .before .find-key .ensures) (c .before .if2 .left) .0 in omega (arith, h, c .key-length .ensures .1)
 
 sub-copy-2 : tie.Need-sub-copy-2
 sub-copy-2 c = search needs
@@ -54,7 +54,7 @@ part-copy-start-2 : tie.Need-part-copy-start-2
 part-copy-start-2 c = search needs
 
 part-copy-end-2 : tie.Need-part-copy-end-2
-part-copy-end-2 c = search needs
+part-copy-end-2 c = omega (arith, c .before .key-length .ensures .1)
 
 copy-requires : tie.Need-copy-requires
 copy-requires c κs = search needs
@@ -65,11 +65,12 @@ same-length c = search needs
 returns-3 : tie.Need-returns-3
 returns-3 c =
     let cp = c .before .before in
-    let i = cp .before .before .before in
+    let k = cp .before .before .before in
+    let i = k .before in
     let f = i .before in
     let st = f .before .before .before .before in
     let h = has-one _ _ _ _ (f .find-key .ensures) (i .if2 .left) in
-    (omega arith, λ ns s. holds-stored _ _ _ _ (st .pre .0) (f .find-key .ensures) (h .0) (h .1) ns _ _ s (f .before .if1 .left) (st .pre .1) _ _ refl refl refl (cp .copy .ensures))
+    (omega (arith, k .key-length .ensures .1), λ ns s. holds-stored _ _ _ _ _ (k .key-length .ensures .0) (f .find-key .ensures) (h .0) (h .1) ns _ _ s (f .before .if1 .left) (st .pre) _ _ refl refl refl (cp .copy .ensures))
 
 pub gather-one-spec : {M : Type 1} → statement M
 gather-one-spec =
@@ -79,7 +80,7 @@ gather-one-spec =
     find-key-requires
     lacking-requires
     returns-2
-    mul-width
+    key-length-requires
     mul-key
     add-key
     add-key-end
