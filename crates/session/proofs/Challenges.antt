@@ -1,24 +1,26 @@
 -- Challenge calls, step by step: the context of a scheme, the block that it makes, and the answer. Assumes nothing.
-use mathlib.Core.Path.{_≡_, refl, sym, ap, _∙_}
+use mathlib.Core.Path.{_≡_, refl, sym, ap, ap₂, _∙_}
 use mathlib.Core.Bool.{Bool, true, false, not}
 use mathlib.Core.List.{List, [], _∷_, _++_, append-nil}
-use Prim.Native.Nat.{ℕ, _+_, _≤_, _<_}
+use Prim.Native.Nat.{ℕ, _+_, _-_, _≤_}
 use native.Mathlib.Omega.{arith}
-use borrow.Author.Tests.{eq-eqb, ne-eqb, lt-ltb, le-ltb}
+use borrow.Author.Tests.{eq-eqb, ne-eqb}
 use lib.Dec.{eqb, ltb, lit≤}
 use lib.ListN.{length, take, drop, replicate, length-drop, length-append}
-use lib.Seq.{take-all}
+use lib.Seq.{take-all, take-at, length-take-le}
 use Rattle.cipher.specs.Bytes.{_⊕_}
 use Rattle.cipher.specs.Fips197.{aesEncrypt, aesDecrypt}
-use Rattle.cipher.specs.Fips46.{desEncrypt, tdea2Encrypt, tdea2Decrypt}
+use Rattle.cipher.specs.Fips46.{desEncrypt}
 use Rattle.cipher.proofs.Copies.{copied}
 use Rattle.answer.specs.declared.answer.Answer.{Answer}
+use Rattle.answer.specs.Delivery.{delivering}
+use Rattle.answer.specs.Fixed.{fit}
 use Rattle.answer.specs.Outcome.{Meets, row, accepted, choose, decide, over}
 use Rattle.answer.specs.Tests.{isnt, either, same}
 use Rattle.answer.proofs.Rows.{Refused, either-false, is-number, refused-meets, accepted-meets}
 use Rattle.answer.proofs.Outputs.{copied-over}
 use Rattle.answer.proofs.Pieces.{copied-next}
-use Rattle.session.specs.Challenge.{desL, desAlpha, desBeta, aesH, aesAlpha, aesBeta, contextBlock, with3C, underAlpha, underAlphaBack, underBeta, underBetaBack, blockSize, unknownScheme, wrong, wrongWith3C, giving, checking, sessionKeyInput, sessionKeys, derivingSessionKeys}
+use Rattle.session.specs.Challenge.{desL, desAlpha, desBeta, aesH, aesAlpha, aesBeta, contextBlock, with3C, blockSize, unknownScheme, wrong, wrongWith3C, giving, checking, sessionKeyInput, sessionKeys, derivingSessionKeys}
 
 -- ---- the mark
 
@@ -64,7 +66,7 @@ not-isnt true = refl
 not-isnt false = refl
 
 module _ (s : ℕ) where
-  pub des-known : s ≡ 1 → false ≡ unknownScheme s
+  pub des-known : s ≡ 1 → not (eqb s 1) ≡ unknownScheme s
   unfolding unknownScheme isnt either
   des-known e = rw e
 
@@ -91,28 +93,15 @@ module _ (s keys idm block size : ℕ) (u : Bool) (eu : u ≡ unknownScheme s) (
     unfolding wrong either isnt
     block-left k i = rw (← eu, h, two-blocks s, ← es, eq-eqb keys (size + size) k, eq-eqb idm 8 i) (not-isnt (eqb block size))
 
-module _ (s keys idm block c3 : ℕ) (w : Bool) (e : w ≡ wrong s keys idm block) where
-  pub wrong-without : w ≡ true → true ≡ wrongWith3C s keys idm block c3
-  unfolding wrongWith3C either
-  wrong-without h = rw (← e, h)
-
-  pub c3-left : w ≡ false → not (eqb c3 4) ≡ wrongWith3C s keys idm block c3
-  unfolding wrongWith3C either
-  c3-left h = rw (← e, h) (not-isnt (eqb c3 4))
-
--- a block that is checked has a length too
-module _ (w : Bool) (n s size : ℕ) (es : size ≡ blockSize s) where
-  pub bad-before : w ≡ true → either w (isnt (eqb n (blockSize s))) ≡ true
+-- t is a test that came before, of a row that holds by w or by a wrong number
+module _ (w t : Bool) (e : t ≡ w) where
+  pub or-before : (b : Bool) → t ≡ true → t ≡ either w b
   unfolding either
-  bad-before h = rw h
+  or-before b h = rw (← e, h)
 
-  pub bad-length : w ≡ false → (n ≡ size → ⊥) → either w (isnt (eqb n (blockSize s))) ≡ true
-  unfolding either isnt
-  bad-length h k = rw (h, ← es, ne-eqb n size k)
-
-  pub not-bad : w ≡ false → n ≡ size → either w (isnt (eqb n (blockSize s))) ≡ false
-  unfolding either isnt
-  not-bad h k = rw (h, ← es, eq-eqb n size k)
+  pub or-number : (n m k : ℕ) → t ≡ false → m ≡ k → not (eqb n m) ≡ either w (isnt (eqb n k))
+  unfolding either
+  or-number n m k h q = rw (← e, h, ← q) (not-isnt (eqb n m))
 
 -- ---- lengths that are not wrong
 
@@ -130,15 +119,15 @@ lengths s keys idm block h =
     record { keys-are = is-number _ _ (g .0); idm-is = is-number _ _ (j .0); block-is = is-number _ _ (j .1) }
 
 module _ (s keys idm block : ℕ) (h : wrong s keys idm block ≡ false) where
-  pub des-lengths : s ≡ 1 → (keys ≡ 16) × (idm ≡ 8) × (block ≡ 8)
+  pub des-lengths : s ≡ 1 → ((keys ≡ 16) × (idm ≡ 8)) × (block ≡ 8)
   des-lengths e =
       let l = lengths s keys idm block h in
-      (l .keys-are ∙ first s 16 32 e, l .idm-is, l .block-is ∙ size-des s e)
+      ((l .keys-are ∙ first s 16 32 e, l .idm-is), l .block-is ∙ size-des s e)
 
-  pub aes-lengths : (s ≡ 1 → ⊥) → (keys ≡ 32) × (idm ≡ 8) × (block ≡ 16)
+  pub aes-lengths : (s ≡ 1 → ⊥) → ((keys ≡ 32) × (idm ≡ 8)) × (block ≡ 16)
   aes-lengths n =
       let l = lengths s keys idm block h in
-      (l .keys-are ∙ second s 16 32 n, l .idm-is, l .block-is ∙ size-aes s n)
+      ((l .keys-are ∙ second s 16 32 n, l .idm-is), l .block-is ∙ size-aes s n)
 
 pub with-3c : (s keys idm block c3 : ℕ) → wrongWith3C s keys idm block c3 ≡ false → (wrong s keys idm block ≡ false) × (c3 ≡ 4)
 unfolding wrongWith3C
@@ -148,23 +137,36 @@ with-3c s keys idm block c3 h =
 
 -- ---- the contexts
 
--- what `new` ensures of a DES context
-module _ (keys idm : List ℕ) where
-  pub des-context : (i g u l a b : List ℕ) → length keys ≡ 16 → i ≡ idm → g ≡ take 8 keys → u ≡ take 8 (drop 8 keys) → (l ≡ g ⊕ i) × (a ≡ desEncrypt l u) × (b ≡ desEncrypt a l)
+-- what a reader of n bytes ensures
+abbrev Reads : ℕ → List ℕ → List ℕ → Type 0
+Reads n s r = (r ≡ fit n s) × (length s ≡ n → r ≡ s)
+
+-- two keys of w bytes each
+halves : (w : ℕ) (keys g u : List ℕ) → length keys ≡ w + w → Reads w (take w keys) g → Reads w (take w (drop w keys)) u → (g ≡ take w keys) × (u ≡ drop w keys)
+halves w keys g u h rg ru =
+    let k : w ≤ length keys = omega arith in
+    let d : length (drop w keys) ≡ w = rw length-drop (omega arith) in
+    let t : take w (drop w keys) ≡ drop w keys = take-all w (drop w keys) (omega arith) in
+    (rg .1 (length-take-le w keys k), ru .1 (ap length t ∙ d) ∙ t)
+
+module _ (keys idm i g u : List ℕ) (ri : Reads 8 idm i) where
+  pub des-context : (l a b : List ℕ) → (length keys ≡ 16) × (length idm ≡ 8) → Reads 8 (take 8 keys) g → Reads 8 (take 8 (drop 8 keys)) u → (l ≡ g ⊕ i) × (a ≡ desEncrypt l u) × (b ≡ desEncrypt a l)
       → (l ≡ desL keys idm) × (a ≡ desAlpha keys idm) × (b ≡ desBeta keys idm)
   unfolding desL desAlpha desBeta
-  des-context i g u l a b h hi hg hu e =
-      let hd : take 8 (drop 8 keys) ≡ drop 8 keys = take-all 8 (drop 8 keys) (rw length-drop (omega arith)) in
-      let el : l ≡ take 8 keys ⊕ idm = e .0 ∙ rw (hi, hg) in
-      let ea : a ≡ desEncrypt (take 8 keys ⊕ idm) (drop 8 keys) = e .1 ∙ rw (el, hu, hd) in
-      (el, ea, e .2 ∙ rw (ea, el))
+  des-context l a b h rg ru e =
+      let k = halves 8 keys g u (h .0) rg ru in
+      let el : l ≡ take 8 keys ⊕ idm = e .0 ∙ ap₂ _⊕_ (k .0) (ri .1 (h .1)) in
+      let ea : a ≡ desEncrypt (take 8 keys ⊕ idm) (drop 8 keys) = e .1 ∙ ap₂ desEncrypt el (k .1) in
+      (el, ea, e .2 ∙ ap₂ desEncrypt ea el)
 
-  pub aes-context : (i g u a b : List ℕ) → length keys ≡ 32 → i ≡ idm → g ≡ take 16 keys → u ≡ take 16 (drop 16 keys) → (a ≡ aesEncrypt (g ⊕ u) (contextBlock 1 i)) × (b ≡ aesEncrypt (g ⊕ u) (contextBlock 2 i))
+  pub aes-context : (a b : List ℕ) → (length keys ≡ 32) × (length idm ≡ 8) → Reads 16 (take 16 keys) g → Reads 16 (take 16 (drop 16 keys)) u → (a ≡ aesEncrypt (g ⊕ u) (contextBlock 1 i)) × (b ≡ aesEncrypt (g ⊕ u) (contextBlock 2 i))
       → (a ≡ aesAlpha keys idm) × (b ≡ aesBeta keys idm)
   unfolding aesH aesAlpha aesBeta
-  aes-context i g u a b h hi hg hu e =
-      let hd : take 16 (drop 16 keys) ≡ drop 16 keys = take-all 16 (drop 16 keys) (rw length-drop (omega arith)) in
-      (e .0 ∙ rw (hi, hg, hu, hd), e .1 ∙ rw (hi, hg, hu, hd))
+  aes-context a b h rg ru e =
+      let k = halves 16 keys g u (h .0) rg ru in
+      let q : g ⊕ u ≡ take 16 keys ⊕ drop 16 keys = ap₂ _⊕_ (k .0) (k .1) in
+      let made : (which : ℕ) (x : List ℕ) → x ≡ aesEncrypt (g ⊕ u) (contextBlock which i) → x ≡ aesEncrypt (take 16 keys ⊕ drop 16 keys) (contextBlock which idm) = λ which x f. f ∙ ap₂ aesEncrypt q (ap (contextBlock which) (ri .1 (h .1))) in
+      (made 1 a (e .0), made 2 b (e .1))
 
 -- the block that alpha or beta encrypts: idm was copied to its place
 pub context-block : (which : ℕ) (idm last : List ℕ) → length idm ≡ 8 → last ≡ take 8 idm ++ drop (length idm) (replicate 8 0) → which ∷ 2 ∷ 0 ∷ 0 ∷ 0 ∷ 0 ∷ (last ++ (1 ∷ 0 ∷ [])) ≡ contextBlock which idm
@@ -185,73 +187,40 @@ encrypted k h x y r p q e = e ∙ rw (p, q)
 pub decrypted : (k h x r : List ℕ) → k ≡ h → r ≡ aesDecrypt k x → r ≡ aesDecrypt h x
 decrypted k h x r p e = e ∙ rw p
 
--- ---- the blocks, by what a context's method ensures
+-- ---- the blocks: r has at its front the block of a scheme, a for DES and w for AES
 
-module _ (s : ℕ) (keys idm x y b : List ℕ) (same-block : y ≡ x) where
-  module _ (e : s ≡ 1) (l a t : List ℕ) (c : (l ≡ desL keys idm) × (a ≡ desAlpha keys idm) × (t ≡ desBeta keys idm)) where
-    pub des-alpha : b ≡ tdea2Encrypt a l y → b ≡ underAlpha s keys idm x
-    unfolding underAlpha
-    des-alpha h = h ∙ rw (c .0, c .1, same-block) (sym (first s _ _ e))
+module _ (s : ℕ) (r a w : List ℕ) where
+  pub des-front : (b : List ℕ) → s ≡ 1 → length b ≡ 8 → r ≡ fit 16 b → b ≡ a → take (blockSize s) r ≡ choose (eqb s 1) a w
+  des-front b e l f q =
+      let t : take 16 b ≡ b = take-all 16 b (omega arith) in
+      rw (size-des s e, first s a w e, f, t) (take-at b (drop (length b) (replicate 16 0)) 8 l ∙ q)
 
-    pub des-alpha-back : b ≡ tdea2Decrypt a l y → b ≡ underAlphaBack s keys idm x
-    unfolding underAlphaBack
-    des-alpha-back h = h ∙ rw (c .0, c .1, same-block) (sym (first s _ _ e))
-
-    pub des-beta : (c3 : List ℕ) → b ≡ tdea2Encrypt l t y → b ≡ underBeta s keys idm c3 x
-    unfolding underBeta
-    des-beta c3 h = h ∙ rw (c .0, c .2, same-block) (sym (first s _ _ e))
-
-    pub des-beta-back : (c3 : List ℕ) → b ≡ tdea2Decrypt l t y → b ≡ underBetaBack s keys idm c3 x
-    unfolding underBetaBack
-    des-beta-back c3 h = h ∙ rw (c .0, c .2, same-block) (sym (first s _ _ e))
-
-  module _ (n : s ≡ 1 → ⊥) (a t : List ℕ) (c : (a ≡ aesAlpha keys idm) × (t ≡ aesBeta keys idm)) where
-    pub aes-alpha : b ≡ aesEncrypt a y → b ≡ underAlpha s keys idm x
-    unfolding underAlpha
-    aes-alpha h = h ∙ rw (c .0, same-block) (sym (second s _ _ n))
-
-    pub aes-alpha-back : b ≡ aesDecrypt a y → b ≡ underAlphaBack s keys idm x
-    unfolding underAlphaBack
-    aes-alpha-back h = h ∙ rw (c .0, same-block) (sym (second s _ _ n))
-
-    pub aes-beta : (c3 d : List ℕ) → d ≡ c3 → b ≡ aesEncrypt (with3C t d) y → b ≡ underBeta s keys idm c3 x
-    unfolding underBeta
-    aes-beta c3 d q h = h ∙ rw (c .1, q, same-block) (sym (second s _ _ n))
-
-    pub aes-beta-back : (c3 d : List ℕ) → d ≡ c3 → b ≡ aesDecrypt (with3C t d) y → b ≡ underBetaBack s keys idm c3 x
-    unfolding underBetaBack
-    aes-beta-back c3 d q h = h ∙ rw (c .1, q, same-block) (sym (second s _ _ n))
+  pub aes-front : (s ≡ 1 → ⊥) → length r ≡ 16 → r ≡ w → take (blockSize s) r ≡ choose (eqb s 1) a w
+  aes-front n l q = rw (size-aes s n, second s a w n) (take-all 16 r (omega arith) ∙ q)
 
 -- ---- the answers
 
--- what `delivered` of src/answer.rt ensures
-abbrev pub Delivered : List ℕ → Answer → List ℕ → List ℕ → Type 0
-Delivered b r o last = Meets (decide (row 16 (ltb (length o) (length b)) ∷ []) (accepted 0 b)) r o last
+-- what `deliver` ensures of bytes that go out with the number 0
+abbrev Delivered : List ℕ → Answer → List ℕ → List ℕ → Type 0
+Delivered b r o last = length b ≤ 65535 → Meets (delivering 0 b (length o)) r o last
 
-module _ (b o : List ℕ) (r : Answer) where
-  pub not-delivered : length o < length b → Refused 16 r → Delivered b r o o
-  unfolding decide choose
-  not-delivered h f = rw (lt-ltb (length o) (length b) h) (refused-meets 16 r o f)
+-- what `give` of src/challenge.rt ensures
+pub front-given : (s size : ℕ) (b : List ℕ) (r : Answer) (o last : List ℕ) → size ≡ blockSize s → length b ≡ 16 → Delivered (take (size - 0) b) r o last → Meets (giving false s (length o) (take (blockSize s) b)) r o last
+unfolding giving delivering decide choose
+front-given s size b r o last es l m =
+    let z : size - 0 ≡ size = omega arith in
+    let k : length (take size b) ≡ size = length-take-le size b (omega (arith, size-most s)) in
+    let d : Delivered (take size b) r o last = rw z at m in
+    rw (← es) (rw k at (d (omega (arith, size-most s))))
 
-  pub delivers : (last : List ℕ) → length b ≤ length o → (r .number ≡ 0) × (r .length ≡ length b) × (r .«transaction_number» ≡ 0) → last ≡ take (length o) b ++ drop (length b) o → Delivered b r o last
-  unfolding decide choose
-  delivers last h f e = rw (le-ltb (length o) (length b) h) (accepted-meets 0 b r o last (f .0) (f .1) (f .2) (copied-over b o last h e))
-
-module _ (bad : Bool) (s : ℕ) (want : List ℕ) (r : Answer) (o : List ℕ) where
-  pub gives-refused : bad ≡ true → Refused 17 r → Meets (giving bad s (length o) want) r o o
+-- t is what a test of row 17 gave
+module _ (bad t : Bool) (s : ℕ) (want : List ℕ) (r : Answer) (o : List ℕ) (e : t ≡ bad) where
+  pub gives-refused : t ≡ true → Refused 17 r → Meets (giving bad s (length o) want) r o o
   unfolding giving decide choose
-  gives-refused h f = rw h (refused-meets 17 r o f)
+  gives-refused h f = rw (← e, h) (refused-meets 17 r o f)
 
-  module _ (b last : List ℕ) (right : bad ≡ false) (q : b ≡ want) (m : Delivered b r o last) where
-    gives : length b ≡ blockSize s → Meets (giving bad s (length o) want) r o last
-    unfolding giving decide choose
-    gives l = rw (right, ← q, ← l) m
-
-    pub des-gives : s ≡ 1 → length b ≡ 8 → Meets (giving bad s (length o) want) r o last
-    des-gives e l = gives (l ∙ sym (size-des s e))
-
-    pub aes-gives : (s ≡ 1 → ⊥) → length b ≡ 16 → Meets (giving bad s (length o) want) r o last
-    aes-gives n l = gives (l ∙ sym (size-aes s n))
+  pub gives : (b last : List ℕ) → t ≡ false → take (blockSize s) b ≡ want → Meets (giving false s (length o) (take (blockSize s) b)) r o last → Meets (giving bad s (length o) want) r o last
+  gives b last h q m = rw (← e, h, ← q) m
 
 module _ (given want : List ℕ) (r : Answer) where
   pub check-refused : (bad : Bool) → bad ≡ true → Refused 17 r → Meets (checking bad given want) r [] []
@@ -289,9 +258,10 @@ module _ (x : List ℕ) (r : Answer) (o : List ℕ) where
   unfolding derivingSessionKeys decide choose isnt
   keys-refused n f = rw (ne-eqb (length x) 16 n) (refused-meets 17 r o f)
 
-  pub keys-given : (y a b both last : List ℕ) → length x ≡ 16 → y ≡ x → (a ≡ aesEncrypt y (sessionKeyInput 1)) × (b ≡ aesEncrypt y (sessionKeyInput 2)) → both ≡ a ++ b → length both ≡ 32 → Delivered both r o last
+  pub keys-given : (y a b both last : List ℕ) → length x ≡ 16 → Reads 16 x y → (a ≡ aesEncrypt y (sessionKeyInput 1)) × (b ≡ aesEncrypt y (sessionKeyInput 2)) → both ≡ a ++ b → length both ≡ 32 → Delivered both r o last
       → Meets (derivingSessionKeys x (length o)) r o last
-  unfolding derivingSessionKeys sessionKeys decide choose isnt
+  unfolding derivingSessionKeys sessionKeys delivering decide choose isnt
   keys-given y a b both last h e k j l m =
-      let q : both ≡ aesEncrypt x (sessionKeyInput 1) ++ aesEncrypt x (sessionKeyInput 2) = j ∙ rw (k .0, k .1, e) in
-      rw (eq-eqb (length x) 16 h, ← q, ← l) m
+      let q : both ≡ aesEncrypt x (sessionKeyInput 1) ++ aesEncrypt x (sessionKeyInput 2) = j ∙ rw (k .0, k .1, e .1 h) in
+      let d : length both ≤ 65535 = omega arith in
+      rw (eq-eqb (length x) 16 h, ← q, ← l) (m d)

@@ -7,10 +7,10 @@ use answer::Answer;
 ghost use mathlib.Core.Path.{_≡_};
 ghost use mathlib.Core.Bool.{false};
 ghost use mathlib.Core.List.{[], _∷_, _++_};
-ghost use lib.ListN.{length};
+ghost use lib.ListN.{length, take};
 ghost use Rattle.answer.specs.Outcome.{Meets, decide, row, accepted};
 ghost use Rattle.answer.specs.Tests.{isnt, same};
-ghost use Rattle.session.specs.Challenge.{desL, desAlpha, desBeta, aesAlpha, aesBeta, underAlpha, underBeta, blockSize, unknownScheme, wrong, wrongWith3C, making1A, reading1A, making1B, checking1B, making2A, reading2A, making2B, checking2B, derivingSessionKeys};
+ghost use Rattle.session.specs.Challenge.{desL, desAlpha, desBeta, aesAlpha, aesBeta, underAlpha, underAlphaBack, underBeta, underBetaBack, blockSize, unknownScheme, wrong, wrongWith3C, giving, making1A, reading1A, making1B, checking1B, making2A, reading2A, making2B, checking2B, derivingSessionKeys};
 
 // ---- 17, from the mark and from lengths
 
@@ -23,10 +23,7 @@ fn block_size(scheme: u8) -> usize
 fn is_unknown(scheme: u8) -> bool
     ensures { λ r. ⌜ r ≡ unknownScheme scheme ⌝ }
 {
-    if scheme == frame::DES {
-        return false;
-    }
-    scheme != frame::AES128
+    scheme != frame::DES && scheme != frame::AES128
 }
 
 fn is_wrong(scheme: u8, keys: usize, idm: usize, block: usize) -> bool
@@ -54,10 +51,7 @@ pub(crate) fn is_wrong_with_3c(
 ) -> bool
     ensures { λ r. ⌜ r ≡ wrongWith3C scheme keys idm block «challenge_3c» ⌝ }
 {
-    if is_wrong(scheme, keys, idm, block) {
-        return true;
-    }
-    challenge_3c != 4
+    is_wrong(scheme, keys, idm, block) || challenge_3c != 4
 }
 
 // ---- the context of a scheme
@@ -80,6 +74,78 @@ fn aes_context(keys: &[u8], idm: &[u8]) -> AuthenticationContextV2Aes128
     let group = answer::sixteen(&keys[0..16]);
     let individual = answer::sixteen(&keys[16..32]);
     AuthenticationContextV2Aes128::new(answer::eight(idm), group, individual)
+}
+
+// ---- a block of a scheme stands at the front of 16 bytes; a DES block has zeros behind it
+
+fn under_alpha(scheme: u8, keys: &[u8], idm: &[u8], block: &[u8]) -> [u8; 16]
+    requires { ⌜ wrong scheme (length (now keys)) (length (now idm)) (length (now block)) ≡ false ⌝ }
+    ensures { λ r. ⌜ take (blockSize scheme) r ≡ underAlpha scheme (now (keys .entry)) (now (idm .entry)) (now (block .entry)) ⌝ }
+{
+    if scheme == frame::DES {
+        let context = des_context(keys, idm);
+        let made = context.encrypt_challenge1a(answer::eight(block));
+        return answer::sixteen(&made);
+    }
+    let context = aes_context(keys, idm);
+    context.encrypt_challenge1a(answer::sixteen(block))
+}
+
+fn under_alpha_back(scheme: u8, keys: &[u8], idm: &[u8], block: &[u8]) -> [u8; 16]
+    requires { ⌜ wrong scheme (length (now keys)) (length (now idm)) (length (now block)) ≡ false ⌝ }
+    ensures { λ r. ⌜ take (blockSize scheme) r ≡ underAlphaBack scheme (now (keys .entry)) (now (idm .entry)) (now (block .entry)) ⌝ }
+{
+    if scheme == frame::DES {
+        let context = des_context(keys, idm);
+        let made = context.decrypt_challenge1a(answer::eight(block));
+        return answer::sixteen(&made);
+    }
+    let context = aes_context(keys, idm);
+    context.decrypt_challenge1a(answer::sixteen(block))
+}
+
+fn under_beta(scheme: u8, keys: &[u8], idm: &[u8], challenge_3c: &[u8], block: &[u8]) -> [u8; 16]
+    requires { ⌜ wrong scheme (length (now keys)) (length (now idm)) (length (now block)) ≡ false ⌝ }
+    requires { ⌜ length (now «challenge_3c») ≡ 4 ⌝ }
+    ensures { λ r. ⌜ take (blockSize scheme) r ≡ underBeta scheme (now (keys .entry)) (now (idm .entry)) (now («challenge_3c» .entry)) (now (block .entry)) ⌝ }
+{
+    if scheme == frame::DES {
+        let context = des_context(keys, idm);
+        let made = context.encrypt_challenge1b(answer::eight(block));
+        return answer::sixteen(&made);
+    }
+    let context = aes_context(keys, idm);
+    context.encrypt_challenge1b(answer::sixteen(block), answer::four(challenge_3c))
+}
+
+fn under_beta_back(
+    scheme: u8,
+    keys: &[u8],
+    idm: &[u8],
+    challenge_3c: &[u8],
+    block: &[u8],
+) -> [u8; 16]
+    requires { ⌜ wrong scheme (length (now keys)) (length (now idm)) (length (now block)) ≡ false ⌝ }
+    requires { ⌜ length (now «challenge_3c») ≡ 4 ⌝ }
+    ensures { λ r. ⌜ take (blockSize scheme) r ≡ underBetaBack scheme (now (keys .entry)) (now (idm .entry)) (now («challenge_3c» .entry)) (now (block .entry)) ⌝ }
+{
+    if scheme == frame::DES {
+        let context = des_context(keys, idm);
+        let made = context.decrypt_challenge2a(answer::eight(block));
+        return answer::sixteen(&made);
+    }
+    let context = aes_context(keys, idm);
+    context.decrypt_challenge2a(answer::sixteen(block), answer::four(challenge_3c))
+}
+
+// ---- what a call answers, where 17 does not hold
+
+// 16, or the block at the front of these bytes.
+fn give(scheme: u8, bytes: [u8; 16], out: &mut [u8]) -> Answer
+    ensures { λ r. ⌜ Meets (giving false scheme (length (now (out .entry))) (take (blockSize scheme) bytes)) r (now (out .entry)) (now (out .exit)) ⌝ }
+{
+    let size = block_size(scheme);
+    answer::deliver(0, &bytes[0..size], out)
 }
 
 // 13, where a block is not the one wanted.
@@ -106,14 +172,7 @@ pub fn encrypt_challenge1a(
     if is_wrong(scheme, keys.len(), idm.len(), random_1.len()) {
         return answer::refused(17);
     }
-    if scheme == frame::DES {
-        let context = des_context(keys, idm);
-        let block = context.encrypt_challenge1a(answer::eight(random_1));
-        return answer::deliver(0, &block, out);
-    }
-    let context = aes_context(keys, idm);
-    let block = context.encrypt_challenge1a(answer::sixteen(random_1));
-    answer::deliver(0, &block, out)
+    give(scheme, under_alpha(scheme, keys, idm, random_1), out)
 }
 
 pub fn decrypt_challenge1a(
@@ -128,14 +187,11 @@ pub fn decrypt_challenge1a(
     if is_wrong(scheme, keys.len(), idm.len(), challenge_1a.len()) {
         return answer::refused(17);
     }
-    if scheme == frame::DES {
-        let context = des_context(keys, idm);
-        let block = context.decrypt_challenge1a(answer::eight(challenge_1a));
-        return answer::deliver(0, &block, out);
-    }
-    let context = aes_context(keys, idm);
-    let block = context.decrypt_challenge1a(answer::sixteen(challenge_1a));
-    answer::deliver(0, &block, out)
+    give(
+        scheme,
+        under_alpha_back(scheme, keys, idm, challenge_1a),
+        out,
+    )
 }
 
 // ---- 1B: the card makes it from the random 1 that it read, the reader checks it
@@ -159,15 +215,11 @@ pub fn encrypt_challenge1b(
     ) {
         return answer::refused(17);
     }
-    if scheme == frame::DES {
-        let context = des_context(keys, idm);
-        let block = context.encrypt_challenge1b(answer::eight(random_1));
-        return answer::deliver(0, &block, out);
-    }
-    let context = aes_context(keys, idm);
-    let random = answer::sixteen(random_1);
-    let block = context.encrypt_challenge1b(random, answer::four(challenge_3c));
-    answer::deliver(0, &block, out)
+    give(
+        scheme,
+        under_beta(scheme, keys, idm, challenge_3c, random_1),
+        out,
+    )
 }
 
 fn is_challenge1b(
@@ -178,8 +230,9 @@ fn is_challenge1b(
     random_1: &[u8],
     challenge_1b: &[u8],
 ) -> bool
-    requires { ⌜ wrongWith3C scheme (length (now keys)) (length (now idm)) (length (now «random_1»)) (length (now «challenge_3c»)) ≡ false ⌝ }
     requires { ⌜ length (now «challenge_1b») ≡ blockSize scheme ⌝ }
+    requires { ⌜ wrong scheme (length (now keys)) (length (now idm)) (length (now «random_1»)) ≡ false ⌝ }
+    requires { ⌜ length (now «challenge_3c») ≡ 4 ⌝ }
     ensures { λ r. ⌜ r ≡ same (now («challenge_1b» .entry)) (underBeta scheme (now (keys .entry)) (now (idm .entry)) (now («challenge_3c» .entry)) (now («random_1» .entry))) ⌝ }
 {
     if scheme == frame::DES {
@@ -203,16 +256,14 @@ pub fn verify_challenge1b(
 ) -> Answer
     ensures { λ r. ⌜ Meets (checking1B scheme (now (keys .entry)) (now (idm .entry)) (now («challenge_3c» .entry)) (now («random_1» .entry)) (now («challenge_1b» .entry))) r [] [] ⌝ }
 {
-    if is_wrong_with_3c(
+    let lengths = is_wrong_with_3c(
         scheme,
         keys.len(),
         idm.len(),
         random_1.len(),
         challenge_3c.len(),
-    ) {
-        return answer::refused(17);
-    }
-    if challenge_1b.len() != block_size(scheme) {
+    );
+    if lengths || challenge_1b.len() != block_size(scheme) {
         return answer::refused(17);
     }
     accept(is_challenge1b(scheme, keys, idm, challenge_3c, random_1, challenge_1b))
@@ -252,15 +303,11 @@ pub fn decrypt_challenge2a(
     ) {
         return answer::refused(17);
     }
-    if scheme == frame::DES {
-        let context = des_context(keys, idm);
-        let block = context.decrypt_challenge2a(answer::eight(challenge_2a));
-        return answer::deliver(0, &block, out);
-    }
-    let context = aes_context(keys, idm);
-    let challenge = answer::sixteen(challenge_2a);
-    let block = context.decrypt_challenge2a(challenge, answer::four(challenge_3c));
-    answer::deliver(0, &block, out)
+    give(
+        scheme,
+        under_beta_back(scheme, keys, idm, challenge_3c, challenge_2a),
+        out,
+    )
 }
 
 // ---- 2B: the reader makes it from the random 2 that it read, the card checks it
@@ -278,8 +325,8 @@ pub fn encrypt_challenge2b(
 }
 
 fn is_challenge2b(scheme: u8, keys: &[u8], idm: &[u8], random_2: &[u8], challenge_2b: &[u8]) -> bool
-    requires { ⌜ wrong scheme (length (now keys)) (length (now idm)) (length (now «random_2»)) ≡ false ⌝ }
     requires { ⌜ length (now «challenge_2b») ≡ blockSize scheme ⌝ }
+    requires { ⌜ wrong scheme (length (now keys)) (length (now idm)) (length (now «random_2»)) ≡ false ⌝ }
     ensures { λ r. ⌜ r ≡ same (now («challenge_2b» .entry)) (underAlpha scheme (now (keys .entry)) (now (idm .entry)) (now («random_2» .entry))) ⌝ }
 {
     if scheme == frame::DES {
@@ -301,10 +348,8 @@ pub fn verify_challenge2b(
 ) -> Answer
     ensures { λ r. ⌜ Meets (checking2B scheme (now (keys .entry)) (now (idm .entry)) (now («random_2» .entry)) (now («challenge_2b» .entry))) r [] [] ⌝ }
 {
-    if is_wrong(scheme, keys.len(), idm.len(), random_2.len()) {
-        return answer::refused(17);
-    }
-    if challenge_2b.len() != block_size(scheme) {
+    let lengths = is_wrong(scheme, keys.len(), idm.len(), random_2.len());
+    if lengths || challenge_2b.len() != block_size(scheme) {
         return answer::refused(17);
     }
     accept(is_challenge2b(scheme, keys, idm, random_2, challenge_2b))

@@ -1,114 +1,29 @@
-use mathlib.Core.Path.{_≡_, sym, _∙_}
-use native.Mathlib.Omega.{arith}
-use lib.ListN.{length}
-use Rattle.session.specs.Challenge.{making1A}
-use Rattle.session.proofs.Challenges.{des-lengths, aes-lengths, des-alpha, aes-alpha, gives-refused, des-gives, aes-gives}
+use mathlib.Core.Path.{sym, _∙_}
+use Rattle.session.specs.Challenge.{underAlpha, making1A}
+use Rattle.session.proofs.Challenges.{gives-refused, gives}
 use borrow.Author.Needs.{needs}
 use Rattle.session.proofs.challenge.encrypt_challenge1a.Statement.{statement}
 use Rattle.session.proofs.challenge.encrypt_challenge1a.Tie as tie
-
-is-wrong-requires : tie.Need-is-wrong-requires
-is-wrong-requires c κs = search needs
-
-refused-requires : tie.Need-refused-requires
-refused-requires c κs = search needs
 
 returns : tie.Need-returns
 unfolding making1A
 returns c =
     let i = c .before in
-    gives-refused _ _ _ _ _ (sym (i .before .is-wrong .ensures) ∙ i .if1 .taken) (c .refused .ensures)
+    let w = i .before in
+    gives-refused _ _ _ _ _ _ (w .is-wrong .ensures) (i .if1 .taken) (c .refused .ensures)
 
-des-context-requires : tie.Need-des-context-requires
-des-context-requires c κs =
-    let l = des-lengths _ _ _ _ (sym (c .before .before .is-wrong .ensures) ∙ c .before .if1 .left) (c .if2 .taken) in
-    (l .0, l .1)
-
-eight-requires : tie.Need-eight-requires
-eight-requires c κs =
-    let i = c .before in
-    des-lengths _ _ _ _ (sym (i .before .before .is-wrong .ensures) ∙ i .before .if1 .left) (i .if2 .taken) .2
-
-encrypt-challenge1a-requires : tie.Need-encrypt-challenge1a-requires
-encrypt-challenge1a-requires c κs = search needs
-
-slice-aggregate-delivered : tie.Need-slice-aggregate-delivered
-slice-aggregate-delivered c = search needs
-
-delivered-requires : tie.Need-delivered-requires
-delivered-requires c κs = search needs
-
-same-length : tie.Need-same-length
-same-length c = search needs
+under-alpha-requires : tie.Need-under-alpha-requires
+under-alpha-requires c κs = sym (c .before .is-wrong .ensures) ∙ c .if1 .left
 
 returns-2 : tie.Need-returns-2
 unfolding making1A
 returns-2 c =
-    let d = c .before .before in
-    let m = d .before .before .before in
-    let x = m .before in
-    let k = x .before in
-    let i = k .before in
-    let j = i .before in
-    let w = j .before in
-    let l : length (m .encrypt-challenge1a .result) ≡ 8 = omega (arith, m .encrypt-challenge1a .ok) in
-    des-gives _ _ _ _ _ _ _ (sym (w .is-wrong .ensures) ∙ j .if1 .left)
-    (des-alpha _ _ _ _ _ _ (x .eight .ensures) (i .if2 .taken) _ _ _ (k .des-context .ensures) (m .encrypt-challenge1a .ensures)) (d .delivered .ensures) (i .if2 .taken) l
-
-aes-context-requires : tie.Need-aes-context-requires
-aes-context-requires c κs =
-    let l = aes-lengths _ _ _ _ (sym (c .before .before .is-wrong .ensures) ∙ c .before .if1 .left) (c .if2 .left) in
-    (l .0, l .1)
-
-sixteen-requires : tie.Need-sixteen-requires
-sixteen-requires c κs =
-    let i = c .before in
-    aes-lengths _ _ _ _ (sym (i .before .before .is-wrong .ensures) ∙ i .before .if1 .left) (i .if2 .left) .2
-
-encrypt-challenge1a-requires-2 : tie.Need-encrypt-challenge1a-requires-2
-encrypt-challenge1a-requires-2 c κs = search needs
-
-slice-aggregate-delivered-2 : tie.Need-slice-aggregate-delivered-2
-slice-aggregate-delivered-2 c = search needs
-
-delivered-requires-2 : tie.Need-delivered-requires-2
-delivered-requires-2 c κs = search needs
-
-same-length-2 : tie.Need-same-length-2
-same-length-2 c = search needs
-
-returns-3 : tie.Need-returns-3
-unfolding making1A
-returns-3 c =
-    let d = c .before .before in
-    let m = d .before .before .before in
-    let x = m .before in
-    let k = x .before in
-    let i = k .before in
-    let j = i .before in
-    let w = j .before in
-    let l : length (m .encrypt-challenge1a2 .result) ≡ 16 = omega (arith, m .encrypt-challenge1a2 .ok) in
-    aes-gives _ _ _ _ _ _ _ (sym (w .is-wrong .ensures) ∙ j .if1 .left)
-    (aes-alpha _ _ _ _ _ _ (x .sixteen .ensures) (i .if2 .left) _ _ (k .aes-context .ensures) (m .encrypt-challenge1a2 .ensures)) (d .delivered2 .ensures) (i .if2 .left) l
+    let g = c .before .before in
+    let u = g .before .before in
+    let i = u .before in
+    let w = i .before in
+    let a = w .before .before .before .before .before .args in
+    gives _ _ _ (underAlpha (a .scheme) (a .keys .now) (a .idm .now) (a .random-1 .now)) _ _ (w .is-wrong .ensures) _ _ (i .if1 .left) (u .under-alpha .ensures) (g .give .ensures)
 
 pub encrypt-challenge1a-spec : {M : Type 1} → statement M
-encrypt-challenge1a-spec =
-    tie.close
-    (tie.spec
-    is-wrong-requires
-    refused-requires
-    returns
-    des-context-requires
-    eight-requires
-    encrypt-challenge1a-requires
-    slice-aggregate-delivered
-    delivered-requires
-    same-length
-    returns-2
-    aes-context-requires
-    sixteen-requires
-    encrypt-challenge1a-requires-2
-    slice-aggregate-delivered-2
-    delivered-requires-2
-    same-length-2
-    returns-3)
+encrypt-challenge1a-spec = tie.close (tie.spec (λ c κs. search needs) (λ c κs. search needs) returns under-alpha-requires (λ c κs. search needs) (λ c. search needs) returns-2)

@@ -4,18 +4,10 @@ use borrow.Author.Needs.{needs}
 use Rattle.session.proofs.challenge.is_wrong.Statement.{statement}
 use Rattle.session.proofs.challenge.is_wrong.Tie as tie
 
-block-size-requires : tie.Need-block-size-requires
-block-size-requires c κs = search needs
-
-is-unknown-requires : tie.Need-is-unknown-requires
-is-unknown-requires c κs = search needs
-
 returns : tie.Need-returns
 returns c =
     let u = c .before in
-    let b = u .before in
-    let a = b .before .args in
-    wrong-mark (a .scheme) (a .keys) (a .idm) (a .block) _ _ (u .is-unknown .ensures) (b .block-size .ensures) (c .if1 .taken)
+    wrong-mark _ _ _ _ _ _ (u .is-unknown .ensures) (u .before .block-size .ensures) (c .if1 .taken)
 
 add-if2 : tie.Need-add-if2
 add-if2 c =
@@ -25,32 +17,17 @@ add-if2 c =
 returns-2 : tie.Need-returns-2
 returns-2 c =
     let u = c .before .before in
-    let b = u .before in
-    let a = b .before .args in
-    wrong-keys (a .scheme) (a .keys) (a .idm) (a .block) _ _ (u .is-unknown .ensures) (b .block-size .ensures) (c .before .if1 .left) (c .if2 .taken)
+    wrong-keys _ _ _ _ _ _ (u .is-unknown .ensures) (u .before .block-size .ensures) (c .before .if1 .left) (c .if2 .taken)
 
 returns-3 : tie.Need-returns-3
 returns-3 c =
     let u = c .before .before .before in
-    let b = u .before in
-    let a = b .before .args in
-    wrong-idm (a .scheme) (a .keys) (a .idm) (a .block) _ _ (u .is-unknown .ensures) (b .block-size .ensures) (c .before .before .if1 .left) (c .before .if2 .left) (c .if3 .taken)
+    wrong-idm _ _ _ _ _ _ (u .is-unknown .ensures) (u .before .block-size .ensures) (c .before .before .if1 .left) (c .before .if2 .left) (c .if3 .taken)
 
 returns-4 : tie.Need-returns-4
 returns-4 c =
     let u = c .before .before .before in
-    let b = u .before in
-    let a = b .before .args in
-    block-left (a .scheme) (a .keys) (a .idm) (a .block) _ _ (u .is-unknown .ensures) (b .block-size .ensures) (c .before .before .if1 .left) (c .before .if2 .left) (c .if3 .left)
+    block-left _ _ _ _ _ _ (u .is-unknown .ensures) (u .before .block-size .ensures) (c .before .before .if1 .left) (c .before .if2 .left) (c .if3 .left)
 
 pub is-wrong-spec : {M : Type 1} → statement M
-is-wrong-spec =
-    tie.close
-    (tie.spec
-    block-size-requires
-    is-unknown-requires
-    returns
-    add-if2
-    returns-2
-    returns-3
-    returns-4)
+is-wrong-spec = tie.close (tie.spec (λ c κs. search needs) (λ c κs. search needs) returns add-if2 returns-2 returns-3 returns-4)

@@ -1,64 +1,40 @@
-use mathlib.Core.Path.{refl, sym, _∙_}
-use Rattle.session.specs.Challenge.{checking1B}
-use Rattle.session.proofs.Challenges.{bad-before, bad-length, not-bad, check-refused, checks}
+use mathlib.Core.Path.{_≡_, sym, _∙_}
+use mathlib.Core.Bool.{Bool, true}
+use mathlib.Core.Logic.{⊎-elim}
+use borrow.Author.Tests.{eqb-true, not-false}
+use lib.Dec.{eqb}
+use lib.ListN.{length}
+use Rattle.answer.specs.Tests.{isnt, either}
+use Rattle.session.specs.Challenge.{underBeta, blockSize, wrongWith3C, checking1B}
+use Rattle.session.proofs.Challenges.{with-3c, or-before, or-number, check-refused, checks}
 use borrow.Author.Needs.{needs}
 use Rattle.session.proofs.challenge.verify_challenge1b.Statement.{statement}
 use Rattle.session.proofs.challenge.verify_challenge1b.Tie as tie
-
-is-wrong-with-3c-requires : tie.Need-is-wrong-with-3c-requires
-is-wrong-with-3c-requires c κs = search needs
-
-refused-requires : tie.Need-refused-requires
-refused-requires c κs = search needs
 
 returns : tie.Need-returns
 unfolding checking1B
 returns c =
     let i = c .before in
-    check-refused _ _ _ _ (bad-before _ _ _ _ refl (sym (i .before .is-wrong-with-3c .ensures) ∙ i .if1 .taken)) (c .refused .ensures)
-
-block-size-requires : tie.Need-block-size-requires
-block-size-requires c κs = search needs
-
-refused-requires-2 : tie.Need-refused-requires-2
-refused-requires-2 c κs = search needs
-
-returns-2 : tie.Need-returns-2
-unfolding checking1B
-returns-2 c =
-    let j = c .before in
-    let z = j .before in
-    let i = z .before in
-    check-refused _ _ _ _ (bad-length _ _ _ _ (z .block-size .ensures) (sym (i .before .is-wrong-with-3c .ensures) ∙ i .if1 .left) (j .if2 .taken)) (c .refused2 .ensures)
+    let e = i .before .is-wrong-with-3c .ensures in
+    let a = i .before .before .before .before .before .before .before .args in
+    let bad : Bool = either (wrongWith3C (a .scheme) (length (a .keys .now)) (length (a .idm .now)) (length (a .random-1 .now)) (length (a .challenge-3c .now))) (isnt (eqb (length (a .challenge-1b .now)) (blockSize (a .scheme)))) in
+    check-refused _ _ _ bad (⊎-elim {C = bad ≡ true} (λ w. sym (or-before _ _ e _ (w .taken)) ∙ w .taken) (λ w. sym (or-number _ _ e _ _ _ (w .0 .left) (w .1 .ensures)) ∙ w .2 .taken) (i .if1 .came)) (c .refused .ensures)
 
 is-challenge1b-requires : tie.Need-is-challenge1b-requires
 is-challenge1b-requires c κs =
     let z = c .before in
     let i = z .before in
-    (sym (i .before .is-wrong-with-3c .ensures) ∙ i .if1 .left, c .if2 .left ∙ z .block-size .ensures)
+    (eqb-true _ _ (not-false _ (c .if2 .left)) ∙ z .block-size .ensures, with-3c _ _ _ _ _ (sym (i .before .is-wrong-with-3c .ensures) ∙ i .if1 .left))
 
-accept-requires : tie.Need-accept-requires
-accept-requires c κs = search needs
-
-returns-3 : tie.Need-returns-3
+returns-2 : tie.Need-returns-2
 unfolding checking1B
-returns-3 c =
+returns-2 c =
     let e = c .before in
     let j = e .before in
     let z = j .before in
     let i = z .before in
-    checks _ _ _ _ _ (not-bad _ _ _ _ (z .block-size .ensures) (sym (i .before .is-wrong-with-3c .ensures) ∙ i .if1 .left) (j .if2 .left)) (e .is-challenge1b .ensures) (c .accept .ensures)
+    let a = i .before .before .before .before .before .before .before .args in
+    checks _ (underBeta (a .scheme) (a .keys .now) (a .idm .now) (a .challenge-3c .now) (a .random-1 .now)) _ _ _ (sym (or-number (wrongWith3C (a .scheme) (length (a .keys .now)) (length (a .idm .now)) (length (a .random-1 .now)) (length (a .challenge-3c .now))) _ (i .before .is-wrong-with-3c .ensures) _ _ _ (i .if1 .left) (z .block-size .ensures)) ∙ j .if2 .left) (e .is-challenge1b .ensures) (c .accept .ensures)
 
 pub verify-challenge1b-spec : {M : Type 1} → statement M
-verify-challenge1b-spec =
-    tie.close
-    (tie.spec
-    is-wrong-with-3c-requires
-    refused-requires
-    returns
-    block-size-requires
-    refused-requires-2
-    returns-2
-    is-challenge1b-requires
-    accept-requires
-    returns-3)
+verify-challenge1b-spec = tie.close (tie.spec (λ c κs. search needs) (λ c κs. search needs) (λ c κs. search needs) returns is-challenge1b-requires (λ c κs. search needs) returns-2)
