@@ -252,6 +252,7 @@ module _ (keys areas services individual : List ℕ) (g : Gathered) (w : List �
 
   module _ (z : g .number ≡ 0) where
     size-is : g .size ≡ length (areas ++ services) * 16
+    unfolding keyLength choose
     size-is =
         let i = s .within in
         sym (length-take-le (g .size) w i) ∙ ap length (s .bytes z) ∙ keys-long keys 2 (areas ++ services) (sym (s .number) ∙ z)
