@@ -10,6 +10,7 @@ use lib.ListN.{length, take, drop, getD, set, length-set}
 use lib.Seq.{drop-drop, drop-cons, drop-length, length-take-le, take-suc-set, take-set-le}
 use Rattle.answer.specs.Number.{numberOf}
 use Rattle.answer.specs.Outcome.{choose}
+use Rattle.answer.specs.Tests.{both}
 use Rattle.session.specs.Entries.{firstNodes, nodes}
 use Rattle.session.specs.Derivation.{last, target}
 use Rattle.session.specs.ServiceCode.{keyFree, bearing}
@@ -149,3 +150,25 @@ last-none d (x ∷ l) h = absurd (omega arith)
 pub target-is : (areas services kept : List ℕ) (d s r : ℕ) → d ≡ last 0 areas → s ≡ last d services → kept ≡ bearing services → r ≡ last s kept → r ≡ target areas services
 unfolding target
 target-is areas services kept d s r p q k e = e ∙ ap₂ last (q ∙ ap (λ (x : ℕ). last x services) p) k
+
+-- ---- key-free services, at the codes of document 01's table
+
+pub free-1009 : keyFree 0x1009 ≡ true
+unfolding keyFree both
+free-1009 = refl
+
+pub free-1017 : keyFree 0x1017 ≡ true
+unfolding keyFree both
+free-1017 = refl
+
+pub bears-1007 : keyFree 0x1007 ≡ false
+unfolding keyFree both
+bears-1007 = refl
+
+pub bears-1008 : keyFree 0x1008 ≡ false
+unfolding keyFree both
+bears-1008 = refl
+
+pub bears-1019 : keyFree 0x1019 ≡ false
+unfolding keyFree both
+bears-1019 = refl
