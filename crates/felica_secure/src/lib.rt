@@ -2,6 +2,6 @@
 // one crate, so those of all crates stand here. Each function passes its arguments on, and packs the answer into one number of 64 bits.
 mod challenge;
 mod derivation;
-mod frame;
+mod frames;
 mod pack;
-mod session;
+mod sessions;

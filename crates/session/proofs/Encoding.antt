@@ -41,9 +41,9 @@ module _ (b : List ℕ) where
       unfolding isSession both
       other-mark h = rw (eq-eqb (length b) 178 l, eq-eqb (getD b 0 0) 1 v, h)
 
-      pub by-count : either (eqb (getD b 1 0) 1) (eqb (getD b 1 0) 2) ≡ true → (k : Bool) → ltb (numberOf (drop 6 b)) 65 ≡ k → k ≡ isSession b
+      pub by-count : either (eqb (getD b 1 0) 1) (eqb (getD b 1 0) 2) ≡ true → (n : ℕ) → n ≡ getD b 6 0 + getD b 7 0 * 256 → ltb n 65 ≡ isSession b
       unfolding isSession both
-      by-count h k e = rw (eq-eqb (length b) 178 l, eq-eqb (getD b 0 0) 1 v, h) (sym e)
+      by-count h n e = rw (eq-eqb (length b) 178 l, eq-eqb (getD b 0 0) 1 v, h, getD-drop 6 b 0 0, getD-drop 6 b 1 0) (ap (λ (m : ℕ). ltb m 65) e)
 
   pub session-size : isSession b ≡ true → length b ≡ 178
   unfolding isSession
