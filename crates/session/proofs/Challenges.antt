@@ -5,7 +5,7 @@ use mathlib.Core.List.{List, [], _∷_, _++_, append-nil}
 use Prim.Native.Nat.{ℕ, _+_, _-_, _≤_}
 use native.Mathlib.Omega.{arith}
 use borrow.Author.Tests.{eq-eqb, ne-eqb}
-use lib.Dec.{eqb, ltb, lit≤}
+use lib.Dec.{eqb, lit≤}
 use lib.ListN.{length, take, drop, replicate, length-drop, length-append}
 use lib.Seq.{take-all, take-at, length-take-le}
 use Rattle.cipher.specs.Bytes.{_⊕_}
@@ -42,7 +42,7 @@ unfolding blockSize
 size-aes s h = second s 8 16 h
 
 -- the derived keys are two blocks
-pub two-blocks : (s : ℕ) → choose (eqb s 1) 16 32 ≡ blockSize s + blockSize s
+two-blocks : (s : ℕ) → choose (eqb s 1) 16 32 ≡ blockSize s + blockSize s
 unfolding blockSize choose
 two-blocks s = go (eqb s 1)
   where
@@ -105,34 +105,27 @@ module _ (w t : Bool) (e : t ≡ w) where
 
 -- ---- lengths that are not wrong
 
-pub record Lengths (s keys idm block : ℕ) : Type 0 where
-  pub keys-are : keys ≡ choose (eqb s 1) 16 32
-  pub idm-is : idm ≡ 8
-  pub block-is : block ≡ blockSize s
-
-pub lengths : (s keys idm block : ℕ) → wrong s keys idm block ≡ false → Lengths s keys idm block
-unfolding wrong
-lengths s keys idm block h =
-    let f = either-false (unknownScheme s) _ h in
-    let g = either-false (isnt (eqb keys (choose (eqb s 1) 16 32))) _ (f .1) in
-    let j = either-false (isnt (eqb idm 8)) (isnt (eqb block (blockSize s))) (g .1) in
-    record { keys-are = is-number _ _ (g .0); idm-is = is-number _ _ (j .0); block-is = is-number _ _ (j .1) }
-
+-- m, n are the numbers of bytes of the derived keys and of a block
 module _ (s keys idm block : ℕ) (h : wrong s keys idm block ≡ false) where
+  lengths : (m n : ℕ) → choose (eqb s 1) 16 32 ≡ m → blockSize s ≡ n → ((keys ≡ m) × (idm ≡ 8)) × (block ≡ n)
+  unfolding wrong
+  lengths m n em en =
+      let f = either-false (unknownScheme s) _ h in
+      let g = either-false (isnt (eqb keys (choose (eqb s 1) 16 32))) _ (f .1) in
+      let j = either-false (isnt (eqb idm 8)) (isnt (eqb block (blockSize s))) (g .1) in
+      ((is-number _ _ (g .0) ∙ em, is-number _ _ (j .0)), is-number _ _ (j .1) ∙ en)
+
   pub des-lengths : s ≡ 1 → ((keys ≡ 16) × (idm ≡ 8)) × (block ≡ 8)
-  des-lengths e =
-      let l = lengths s keys idm block h in
-      ((l .keys-are ∙ first s 16 32 e, l .idm-is), l .block-is ∙ size-des s e)
+  des-lengths e = lengths 16 8 (first s 16 32 e) (size-des s e)
 
   pub aes-lengths : (s ≡ 1 → ⊥) → ((keys ≡ 32) × (idm ≡ 8)) × (block ≡ 16)
-  aes-lengths n =
-      let l = lengths s keys idm block h in
-      ((l .keys-are ∙ second s 16 32 n, l .idm-is), l .block-is ∙ size-aes s n)
+  aes-lengths n = lengths 32 16 (second s 16 32 n) (size-aes s n)
 
-pub with-3c : (s keys idm block c3 : ℕ) → wrongWith3C s keys idm block c3 ≡ false → (wrong s keys idm block ≡ false) × (c3 ≡ 4)
+-- t is what the test gave
+pub with-3c : (s keys idm block c3 : ℕ) (t : Bool) → t ≡ wrongWith3C s keys idm block c3 → t ≡ false → (wrong s keys idm block ≡ false) × (c3 ≡ 4)
 unfolding wrongWith3C
-with-3c s keys idm block c3 h =
-    let f = either-false (wrong s keys idm block) (isnt (eqb c3 4)) h in
+with-3c s keys idm block c3 t e h =
+    let f = either-false (wrong s keys idm block) (isnt (eqb c3 4)) (sym e ∙ h) in
     (f .0, is-number c3 4 (f .1))
 
 -- ---- the contexts
@@ -165,8 +158,8 @@ module _ (keys idm i g u : List ℕ) (ri : Reads 8 idm i) where
   aes-context a b h rg ru e =
       let k = halves 16 keys g u (h .0) rg ru in
       let q : g ⊕ u ≡ take 16 keys ⊕ drop 16 keys = ap₂ _⊕_ (k .0) (k .1) in
-      let made : (which : ℕ) (x : List ℕ) → x ≡ aesEncrypt (g ⊕ u) (contextBlock which i) → x ≡ aesEncrypt (take 16 keys ⊕ drop 16 keys) (contextBlock which idm) = λ which x f. f ∙ ap₂ aesEncrypt q (ap (contextBlock which) (ri .1 (h .1))) in
-      (made 1 a (e .0), made 2 b (e .1))
+      let p : i ≡ idm = ri .1 (h .1) in
+      (e .0 ∙ ap₂ aesEncrypt q (ap (contextBlock 1) p), e .1 ∙ ap₂ aesEncrypt q (ap (contextBlock 2) p))
 
 -- the block that alpha or beta encrypts: idm was copied to its place
 pub context-block : (which : ℕ) (idm last : List ℕ) → length idm ≡ 8 → last ≡ take 8 idm ++ drop (length idm) (replicate 8 0) → which ∷ 2 ∷ 0 ∷ 0 ∷ 0 ∷ 0 ∷ (last ++ (1 ∷ 0 ∷ [])) ≡ contextBlock which idm
@@ -221,6 +214,9 @@ module _ (bad t : Bool) (s : ℕ) (want : List ℕ) (r : Answer) (o : List ℕ) 
 
   pub gives : (b last : List ℕ) → t ≡ false → take (blockSize s) b ≡ want → Meets (giving false s (length o) (take (blockSize s) b)) r o last → Meets (giving bad s (length o) want) r o last
   gives b last h q m = rw (← e, h, ← q) m
+
+pub compared : (t : Bool) (x y u v : List ℕ) → t ≡ same x u → x ≡ y → u ≡ v → t ≡ same y v
+compared t x y u v e p q = e ∙ ap₂ same p q
 
 module _ (given want : List ℕ) (r : Answer) where
   pub check-refused : (bad : Bool) → bad ≡ true → Refused 17 r → Meets (checking bad given want) r [] []

@@ -76,8 +76,9 @@ fn aes_context(keys: &[u8], idm: &[u8]) -> AuthenticationContextV2Aes128
     AuthenticationContextV2Aes128::new(answer::eight(idm), group, individual)
 }
 
-// ---- a block of a scheme stands at the front of 16 bytes; a DES block has zeros behind it
+// ---- a challenge's block, in front of 16 bytes: a DES block has 8 zeros behind it
 
+// 1A and 2B, of their random block.
 fn under_alpha(scheme: u8, keys: &[u8], idm: &[u8], block: &[u8]) -> [u8; 16]
     requires { ⌜ wrong scheme (length (now keys)) (length (now idm)) (length (now block)) ≡ false ⌝ }
     ensures { λ r. ⌜ take (blockSize scheme) r ≡ underAlpha scheme (now (keys .entry)) (now (idm .entry)) (now (block .entry)) ⌝ }
@@ -91,6 +92,7 @@ fn under_alpha(scheme: u8, keys: &[u8], idm: &[u8], block: &[u8]) -> [u8; 16]
     context.encrypt_challenge1a(answer::sixteen(block))
 }
 
+// The random block of a 1A.
 fn under_alpha_back(scheme: u8, keys: &[u8], idm: &[u8], block: &[u8]) -> [u8; 16]
     requires { ⌜ wrong scheme (length (now keys)) (length (now idm)) (length (now block)) ≡ false ⌝ }
     ensures { λ r. ⌜ take (blockSize scheme) r ≡ underAlphaBack scheme (now (keys .entry)) (now (idm .entry)) (now (block .entry)) ⌝ }
@@ -104,6 +106,7 @@ fn under_alpha_back(scheme: u8, keys: &[u8], idm: &[u8], block: &[u8]) -> [u8; 1
     context.decrypt_challenge1a(answer::sixteen(block))
 }
 
+// 1B and 2A, of their random block.
 fn under_beta(scheme: u8, keys: &[u8], idm: &[u8], challenge_3c: &[u8], block: &[u8]) -> [u8; 16]
     requires { ⌜ wrong scheme (length (now keys)) (length (now idm)) (length (now block)) ≡ false ⌝ }
     requires { ⌜ length (now «challenge_3c») ≡ 4 ⌝ }
@@ -118,6 +121,7 @@ fn under_beta(scheme: u8, keys: &[u8], idm: &[u8], challenge_3c: &[u8], block: &
     context.encrypt_challenge1b(answer::sixteen(block), answer::four(challenge_3c))
 }
 
+// The random block of a 2A.
 fn under_beta_back(
     scheme: u8,
     keys: &[u8],
@@ -140,7 +144,7 @@ fn under_beta_back(
 
 // ---- what a call answers, where 17 does not hold
 
-// 16, or the block at the front of these bytes.
+// 16, else the block in front of these bytes goes out.
 fn give(scheme: u8, bytes: [u8; 16], out: &mut [u8]) -> Answer
     ensures { λ r. ⌜ Meets (giving false scheme (length (now (out .entry))) (take (blockSize scheme) bytes)) r (now (out .entry)) (now (out .exit)) ⌝ }
 {
@@ -172,7 +176,8 @@ pub fn encrypt_challenge1a(
     if is_wrong(scheme, keys.len(), idm.len(), random_1.len()) {
         return answer::refused(17);
     }
-    give(scheme, under_alpha(scheme, keys, idm, random_1), out)
+    let block = under_alpha(scheme, keys, idm, random_1);
+    give(scheme, block, out)
 }
 
 pub fn decrypt_challenge1a(
@@ -187,11 +192,8 @@ pub fn decrypt_challenge1a(
     if is_wrong(scheme, keys.len(), idm.len(), challenge_1a.len()) {
         return answer::refused(17);
     }
-    give(
-        scheme,
-        under_alpha_back(scheme, keys, idm, challenge_1a),
-        out,
-    )
+    let block = under_alpha_back(scheme, keys, idm, challenge_1a);
+    give(scheme, block, out)
 }
 
 // ---- 1B: the card makes it from the random 1 that it read, the reader checks it
@@ -215,11 +217,8 @@ pub fn encrypt_challenge1b(
     ) {
         return answer::refused(17);
     }
-    give(
-        scheme,
-        under_beta(scheme, keys, idm, challenge_3c, random_1),
-        out,
-    )
+    let block = under_beta(scheme, keys, idm, challenge_3c, random_1);
+    give(scheme, block, out)
 }
 
 fn is_challenge1b(
@@ -256,14 +255,14 @@ pub fn verify_challenge1b(
 ) -> Answer
     ensures { λ r. ⌜ Meets (checking1B scheme (now (keys .entry)) (now (idm .entry)) (now («challenge_3c» .entry)) (now («random_1» .entry)) (now («challenge_1b» .entry))) r [] [] ⌝ }
 {
-    let lengths = is_wrong_with_3c(
+    let wrong = is_wrong_with_3c(
         scheme,
         keys.len(),
         idm.len(),
         random_1.len(),
         challenge_3c.len(),
     );
-    if lengths || challenge_1b.len() != block_size(scheme) {
+    if wrong || challenge_1b.len() != block_size(scheme) {
         return answer::refused(17);
     }
     accept(is_challenge1b(scheme, keys, idm, challenge_3c, random_1, challenge_1b))
@@ -303,11 +302,8 @@ pub fn decrypt_challenge2a(
     ) {
         return answer::refused(17);
     }
-    give(
-        scheme,
-        under_beta_back(scheme, keys, idm, challenge_3c, challenge_2a),
-        out,
-    )
+    let block = under_beta_back(scheme, keys, idm, challenge_3c, challenge_2a);
+    give(scheme, block, out)
 }
 
 // ---- 2B: the reader makes it from the random 2 that it read, the card checks it
@@ -348,8 +344,8 @@ pub fn verify_challenge2b(
 ) -> Answer
     ensures { λ r. ⌜ Meets (checking2B scheme (now (keys .entry)) (now (idm .entry)) (now («random_2» .entry)) (now («challenge_2b» .entry))) r [] [] ⌝ }
 {
-    let lengths = is_wrong(scheme, keys.len(), idm.len(), random_2.len());
-    if lengths || challenge_2b.len() != block_size(scheme) {
+    let wrong = is_wrong(scheme, keys.len(), idm.len(), random_2.len());
+    if wrong || challenge_2b.len() != block_size(scheme) {
         return answer::refused(17);
     }
     accept(is_challenge2b(scheme, keys, idm, random_2, challenge_2b))

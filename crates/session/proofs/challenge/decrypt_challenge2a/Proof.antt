@@ -1,4 +1,3 @@
-use mathlib.Core.Path.{sym, _∙_}
 use lib.ListN.{length}
 use Rattle.session.specs.Challenge.{wrongWith3C, underBetaBack, reading2A}
 use Rattle.session.proofs.Challenges.{with-3c, gives-refused, gives}
@@ -15,7 +14,7 @@ returns c =
     gives-refused (wrongWith3C (a .scheme) (length (a .keys .now)) (length (a .idm .now)) (length (a .challenge-2a .now)) (length (a .challenge-3c .now))) _ _ _ _ _ (w .is-wrong-with-3c .ensures) (i .if1 .taken) (c .refused .ensures)
 
 under-beta-back-requires : tie.Need-under-beta-back-requires
-under-beta-back-requires c κs = with-3c _ _ _ _ _ (sym (c .before .is-wrong-with-3c .ensures) ∙ c .if1 .left)
+under-beta-back-requires c κs = with-3c _ _ _ _ _ _ (c .before .is-wrong-with-3c .ensures) (c .if1 .left)
 
 returns-2 : tie.Need-returns-2
 unfolding reading2A

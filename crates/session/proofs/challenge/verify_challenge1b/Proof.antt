@@ -17,14 +17,15 @@ returns c =
     let i = c .before in
     let e = i .before .is-wrong-with-3c .ensures in
     let a = i .before .before .before .before .before .before .before .args in
-    let bad : Bool = either (wrongWith3C (a .scheme) (length (a .keys .now)) (length (a .idm .now)) (length (a .random-1 .now)) (length (a .challenge-3c .now))) (isnt (eqb (length (a .challenge-1b .now)) (blockSize (a .scheme)))) in
-    check-refused _ _ _ bad (⊎-elim {C = bad ≡ true} (λ w. sym (or-before _ _ e _ (w .taken)) ∙ w .taken) (λ w. sym (or-number _ _ e _ _ _ (w .0 .left) (w .1 .ensures)) ∙ w .2 .taken) (i .if1 .came)) (c .refused .ensures)
+    let t : Bool = wrongWith3C (a .scheme) (length (a .keys .now)) (length (a .idm .now)) (length (a .random-1 .now)) (length (a .challenge-3c .now)) in
+    let bad : Bool = either t (isnt (eqb (length (a .challenge-1b .now)) (blockSize (a .scheme)))) in
+    check-refused _ _ _ bad (⊎-elim {C = bad ≡ true} (λ w. sym (or-before t _ e _ (w .taken)) ∙ w .taken) (λ w. sym (or-number t _ e _ _ _ (w .0 .left) (w .1 .ensures)) ∙ w .2 .taken) (i .if1 .came)) (c .refused .ensures)
 
 is-challenge1b-requires : tie.Need-is-challenge1b-requires
 is-challenge1b-requires c κs =
     let z = c .before in
     let i = z .before in
-    (eqb-true _ _ (not-false _ (c .if2 .left)) ∙ z .block-size .ensures, with-3c _ _ _ _ _ (sym (i .before .is-wrong-with-3c .ensures) ∙ i .if1 .left))
+    (eqb-true _ _ (not-false _ (c .if2 .left)) ∙ z .block-size .ensures, with-3c _ _ _ _ _ _ (i .before .is-wrong-with-3c .ensures) (i .if1 .left))
 
 returns-2 : tie.Need-returns-2
 unfolding checking1B

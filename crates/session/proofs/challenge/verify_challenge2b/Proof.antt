@@ -17,8 +17,9 @@ returns c =
     let i = c .before in
     let e = i .before .is-wrong .ensures in
     let a = i .before .before .before .before .before .before .args in
-    let bad : Bool = either (wrong (a .scheme) (length (a .keys .now)) (length (a .idm .now)) (length (a .random-2 .now))) (isnt (eqb (length (a .challenge-2b .now)) (blockSize (a .scheme)))) in
-    check-refused _ _ _ bad (⊎-elim {C = bad ≡ true} (λ w. sym (or-before _ _ e _ (w .taken)) ∙ w .taken) (λ w. sym (or-number _ _ e _ _ _ (w .0 .left) (w .1 .ensures)) ∙ w .2 .taken) (i .if1 .came)) (c .refused .ensures)
+    let t : Bool = wrong (a .scheme) (length (a .keys .now)) (length (a .idm .now)) (length (a .random-2 .now)) in
+    let bad : Bool = either t (isnt (eqb (length (a .challenge-2b .now)) (blockSize (a .scheme)))) in
+    check-refused _ _ _ bad (⊎-elim {C = bad ≡ true} (λ w. sym (or-before t _ e _ (w .taken)) ∙ w .taken) (λ w. sym (or-number t _ e _ _ _ (w .0 .left) (w .1 .ensures)) ∙ w .2 .taken) (i .if1 .came)) (c .refused .ensures)
 
 is-challenge2b-requires : tie.Need-is-challenge2b-requires
 is-challenge2b-requires c κs =
