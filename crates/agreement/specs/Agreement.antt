@@ -1,5 +1,5 @@
--- Statement 3: a reader and a card with the same inputs read each other's random blocks, accept exactly the right 1B and 2B, derive the same
--- session keys, and opening is the exact inverse of sealing, for every code and all bytes. Assumes nothing.
+-- Document 01, Contract reading, the words of statement 3: a reader and a card with the same inputs read each other's random blocks, accept
+-- exactly the right 1B and 2B, derive the same session keys, and opening exactly inverts sealing, for every code and all bytes. Assumes nothing.
 use Prim.Native.Nat.{ℕ, _<_}
 use mathlib.Core.Path.{_≡_}
 use mathlib.Core.List.{List, _++_}

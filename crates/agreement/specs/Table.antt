@@ -1,4 +1,4 @@
--- The table of document 01: values that the definitions have at given places. Assumes nothing.
+-- Document 01, Contract reading, its table: values that the definitions have at given places. Assumes nothing.
 use Prim.Native.Nat.{ℕ, _≤_}
 use mathlib.Core.Path.{_≡_}
 use mathlib.Core.Bool.{true, false}

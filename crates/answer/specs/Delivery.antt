@@ -1,4 +1,4 @@
--- The last step of an opening: a payload goes out where there is room for it. Assumes nothing.
+-- Document 01, Turned-down calls, row 16, which is last: a payload goes out where there is room for it. Assumes nothing.
 use Prim.Native.Nat.{ℕ}
 use mathlib.Core.List.{List, [], _∷_}
 use lib.Dec.{ltb}

@@ -1,4 +1,4 @@
--- A byte string of any length as one of a fixed length. Assumes nothing.
+-- From no document: how a reader of a fixed length takes a byte string of any length. Assumes nothing.
 use Prim.Native.Nat.{ℕ}
 use mathlib.Core.List.{List, _++_}
 use lib.ListN.{length, take, drop, replicate}

@@ -1,4 +1,4 @@
--- A transaction number in two bytes, the low one first. Assumes nothing.
+-- Document 01, Layouts: a number in two bytes, the low one first. Assumes nothing.
 use Prim.Native.Nat.{ℕ, _+_, _*_, _/_, _%_}
 use mathlib.Core.List.{List, [], _∷_}
 use lib.ListN.{getD}

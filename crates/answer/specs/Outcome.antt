@@ -1,4 +1,5 @@
--- What a call answers and writes. Numbers are those of the table of turned-down calls (docs/NUMBERS.md); 0 is acceptance. Assumes nothing.
+-- Document 01, Turned-down calls: what a call answers and writes. Its numbers are those of that table (docs/NUMBERS.md); 0 is acceptance.
+-- Assumes nothing.
 use Prim.Native.Nat.{ℕ}
 use mathlib.Core.Path.{_≡_}
 use mathlib.Core.Bool.{Bool, true, false}

@@ -1,4 +1,4 @@
--- Tests that the refusals' conditions are made of. Assumes nothing.
+-- Document 01, Turned-down calls: the tests that its conditions are made of. Assumes nothing.
 use Prim.Native.Nat.{ℕ}
 use mathlib.Core.Bool.{Bool, true, false}
 use mathlib.Core.List.{List, [], _∷_}

@@ -1,4 +1,4 @@
--- How a byte string of any length stands for a block, and how a result is written over a byte string. Assumes nothing.
+-- From no document: how a byte string of any length stands for a block, and how a result is written over a byte string. Assumes nothing.
 use Prim.Native.Nat.{ℕ}
 use mathlib.Core.Bool.{Bool, true, false}
 use mathlib.Core.List.{List, _++_}

@@ -1,4 +1,4 @@
--- Strings of bits, highest first, and their numbers and bytes: what FIPS 46-3 works on. Assumes nothing.
+-- FIPS 46-3: the strings of bits that it works on, highest first, and their numbers and bytes. Assumes nothing.
 use Prim.Native.Nat.{ℕ, zero, suc, _+_, _*_, _/_, _%_}
 use mathlib.Core.Bool.{Bool, true, false}
 use mathlib.Core.List.{List, [], _∷_, _++_}

@@ -1,4 +1,4 @@
--- Byte strings, as lists of numbers: what several of the standards share. Assumes nothing.
+-- FIPS 197, SP 800-38A and SP 800-38B: the byte strings that they share, as lists of numbers. Assumes nothing.
 use Prim.Native.Nat.{ℕ, zero, suc, _/_, _%_, _<_}
 use mathlib.Core.List.{List, [], _∷_, _++_}
 use lib.ListN.{length, getD, replicate}

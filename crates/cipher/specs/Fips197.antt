@@ -96,11 +96,12 @@ word w i = take 4 (drop (4 * i) w)
 unfoldable pub rotWord : List ℕ → List ℕ
 rotWord t = drop 1 t ++ take 1 t
 
--- x^(i - 1), and its word
+-- x^i
 unfoldable pub power : ℕ → ℕ
 power zero = 1
 power (suc i) = xtime (power i)
 
+-- Rcon[i], the word of x^(i - 1)
 unfoldable pub rcon : ℕ → List ℕ
 rcon i = power (i - 1) ∷ 0 ∷ 0 ∷ 0 ∷ []
 

@@ -1,5 +1,5 @@
--- A block encrypted under each block of a string in turn, as a key, and the way back; over any block cipher, with keys of w bytes.
--- Bytes after the last whole key play no part. Assumes nothing.
+-- From no standard: a block encrypted under each block of a string in turn, as a key, and the way back; over any block cipher, with keys of w
+-- bytes. The DES MAC and the key chains of document 01 are such folds. Bytes after the last whole key play no part. Assumes nothing.
 use Prim.Native.Nat.{ℕ, zero, suc, _/_}
 use mathlib.Core.List.{List}
 use lib.ListN.{length, take, drop}

@@ -1,5 +1,5 @@
--- A state that a C caller keeps as bytes between calls: what a call on the bytes answers, writes and leaves, over any state with its encoding.
--- Assumes nothing.
+-- Document 01, How to write each place: C callers pass numbers and byte slices only. So a state that a C caller keeps is bytes: what a call on
+-- the bytes answers, writes and leaves, over any state with its encoding. Assumes nothing.
 use Prim.Native.Nat.{ℕ}
 use mathlib.Core.Bool.{Bool, true}
 use mathlib.Core.Path.{_≡_}

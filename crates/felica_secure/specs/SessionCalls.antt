@@ -1,4 +1,4 @@
--- The session that a C caller keeps: its calls. Assumes nothing.
+-- Document 01, How to write each place, and Corners (mod.rs): the calls on the session that a C caller keeps. Assumes nothing.
 use Prim.Native.Nat.{ℕ, _*_}
 use mathlib.Core.List.{List, []}
 use lib.ListN.{take}

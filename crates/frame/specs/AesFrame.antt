@@ -1,4 +1,4 @@
--- Sealed AES data: number 2 (low byte first), cipher payload, cipher MAC 8. Assumes nothing.
+-- Document 01, Layouts: sealed AES data is number 2 (low byte first), cipher payload, cipher MAC 8. Assumes nothing.
 use Prim.Native.Nat.{ℕ, _+_, _-_, _/_, _%_}
 use mathlib.Core.List.{List, [], _∷_, _++_}
 use lib.Dec.{eqb, ltb}

@@ -1,5 +1,5 @@
--- Authentication 2. DES: a payload to which no header is added, sealed under code 0x13; its opening gives all but the MAC, padding too.
--- AES: sealed data under code 0x43. Assumes nothing.
+-- Document 01, Corners (des.rs) and Carried: Authentication 2. DES: a payload to which no header is added, sealed under code 0x13; its opening
+-- gives all but the MAC, padding too. AES: sealed data under code 0x43. Assumes nothing.
 use Prim.Native.Nat.{ℕ, _+_, _-_, _%_}
 use mathlib.Core.List.{List, [], _∷_, _++_}
 use lib.Dec.{eqb, ltb}

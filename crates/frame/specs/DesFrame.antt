@@ -1,4 +1,5 @@
--- Sealed DES data: number 2 (low byte first), ID 6, payload, padding, MAC 8; CBC, zero IV. Assumes nothing.
+-- Document 01, Layouts and Corners (des.rs): sealed DES data is number 2 (low byte first), ID 6, payload, padding, MAC 8; CBC, zero IV.
+-- Assumes nothing.
 use Prim.Native.Nat.{ℕ, _+_, _-_, _%_}
 use mathlib.Core.Bool.{Bool}
 use mathlib.Core.List.{List, [], _∷_, _++_}

@@ -1,4 +1,5 @@
--- What it says that opening is the exact inverse of sealing, for a scheme, credentials, an ID and a code. Assumes nothing.
+-- Document 01, Contract reading, the words of statement 3: states that opening exactly inverts sealing, for a scheme, credentials, an ID and a
+-- code. Assumes nothing.
 use mathlib.Core.Path.{_≡_}
 use mathlib.Core.List.{List}
 use mathlib.Core.Logic.{_↔_}

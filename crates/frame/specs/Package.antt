@@ -1,4 +1,5 @@
--- Registration package: the last CBC block under the complemented key is appended, then CBC under the key, both IVs zero. Assumes nothing.
+-- Document 01, Layouts: in a registration package the last CBC block under the complemented key is appended, then CBC under the key, both IVs
+-- zero. Assumes nothing.
 use Prim.Native.Nat.{ℕ, _+_, _-_, _%_}
 use mathlib.Core.List.{List, [], _∷_, _++_}
 use lib.Dec.{eqb, ltb}

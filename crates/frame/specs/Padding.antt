@@ -1,4 +1,4 @@
--- Padding: only off an 8-byte boundary, and each byte is the count of bytes added. Assumes nothing.
+-- Document 01, Corners (primitives.rs): padding acts only off an 8-byte boundary, and each byte is the count of bytes added. Assumes nothing.
 use Prim.Native.Nat.{ℕ, _-_, _%_}
 use mathlib.Core.List.{List, _++_}
 use lib.ListN.{length, replicate}

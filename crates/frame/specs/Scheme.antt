@@ -1,5 +1,5 @@
--- Both schemes: a scheme mark is 1 for DES and 2 for AES, and every other gives 17. The credentials are the DES session key, or cipher
--- key, MAC key and Challenge 3C. Assumes nothing.
+-- Document 01, Turned-down calls (marks), Layouts (response frame), Carried and added (size forecast): both schemes. A scheme mark is 1 for DES
+-- and 2 for AES, and every other gives 17. The credentials are the DES session key, or cipher key, MAC key and Challenge 3C. Assumes nothing.
 use Prim.Native.Nat.{ℕ, _+_, _-_, _≤_}
 use mathlib.Core.Path.{_≡_}
 use mathlib.Core.List.{List, [], _∷_}
@@ -33,10 +33,11 @@ opening scheme c code id sealed room = byScheme scheme (desOpening c code id sea
 unfoldable pub framed : ℕ → List ℕ → List ℕ
 framed code sealed = (length sealed + 2) ∷ code ∷ sealed
 
--- what a sealing becomes that had two bytes less of the output: its refusals stay
+-- frames an accepted sealing; passes a refusal through
 unfoldable pub framing : ℕ → Outcome → Outcome
 framing code o = choose (eqb (o .number) 0) (accepted 0 (framed code (o .bytes))) o
 
+-- the sealing has two bytes less of the output, so 16 is about the whole frame
 unfoldable pub responding : ℕ → List ℕ → ℕ → ℕ → List ℕ → List ℕ → ℕ → Outcome
 responding scheme c code number id payload room = framing code (sealing scheme c code number id payload (room - 2))
 

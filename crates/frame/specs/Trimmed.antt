@@ -1,5 +1,5 @@
--- Trimmed DES opening: if the payload's last byte v is 1..7, v bytes are dropped. Its rows are those of the opening, with 16 about the
--- trimmed payload. Assumes nothing.
+-- Document 01, Carried and added: in the trimmed DES opening, if the payload's last byte v is 1..7, v bytes are dropped. Its rows are those of
+-- the opening, with 16 about the trimmed payload. Assumes nothing.
 use Prim.Native.Nat.{ℕ, _-_}
 use mathlib.Core.List.{List, _++_}
 use lib.Dec.{ltb}

@@ -1,5 +1,5 @@
--- Challenges: 1A and 1B carry random 1, 2A and 2B random 2. 1A, 2B go under one key, 1B, 2A under another; both come from the derived keys
--- and the card's IDm. Assumes nothing.
+-- Document 01, Layouts: challenges. 1A and 1B carry random 1, 2A and 2B random 2. 1A, 2B go under one key, 1B, 2A under another; both keys come
+-- from the derived keys and the card's IDm. Assumes nothing.
 use Prim.Native.Nat.{ℕ}
 use mathlib.Core.Bool.{Bool}
 use mathlib.Core.List.{List, [], _∷_, _++_}

@@ -1,4 +1,5 @@
--- Derivation of the keys of an authentication: the keys of areas and services, each in turn, encrypt a block. Assumes nothing.
+-- Document 01, Turned-down calls (Derivation) and Layouts (both chains): derivation of the keys of an authentication. The keys of areas and
+-- services, each in turn, encrypt a block. Assumes nothing.
 use Prim.Native.Nat.{ℕ, _%_}
 use mathlib.Core.Path.{_≡_}
 use mathlib.Core.Bool.{Bool}

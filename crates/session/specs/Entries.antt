@@ -1,5 +1,5 @@
--- Lists as a caller hands them over. Key entry, 19 bytes: node 2 (low byte first), algorithm 1 (1 DES, 2 AES), key 16; DES uses the first 8.
--- Node, 2 bytes: low byte first. Assumes nothing.
+-- Document 01, Layouts: lists as a caller hands them over. A key entry is 19 bytes: node 2 (low byte first), algorithm 1 (1 DES, 2 AES), key 16;
+-- DES uses the first 8. A node is 2 bytes, the low one first. Assumes nothing.
 use Prim.Native.Nat.{ℕ, zero, suc, _/_}
 use mathlib.Core.Bool.{Bool, false}
 use mathlib.Core.List.{List, [], _∷_}

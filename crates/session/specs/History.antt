@@ -1,4 +1,5 @@
--- What happens to a session from its making on: number steps, settings of the number, responses. Assumes nothing.
+-- Document 01, Carried and added (the turned-away count) and Corners (mod.rs): what happens to a session from its making on, which is number
+-- steps, settings of the number, responses. Assumes nothing.
 use Prim.Native.Nat.{ℕ, zero, suc, _+_}
 use mathlib.Core.List.{List, [], _∷_}
 use lib.Dec.{ltb}

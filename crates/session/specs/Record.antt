@@ -1,4 +1,4 @@
--- The session for C: bytes that the caller keeps between calls. Assumes nothing.
+-- From no document: the session for C, as bytes that the caller keeps between calls. The layout is ours. Assumes nothing.
 use Prim.Native.Nat.{ℕ}
 use mathlib.Core.Bool.{Bool}
 use mathlib.Core.List.{List, [], _∷_, _++_}

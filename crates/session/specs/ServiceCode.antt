@@ -1,4 +1,4 @@
--- Service codes. Assumes nothing.
+-- Document 01, Corners (keys.rs, types.rs): service codes. Assumes nothing.
 use Prim.Native.Nat.{ℕ, _%_}
 use mathlib.Core.Bool.{Bool}
 use mathlib.Core.List.{List, [], _∷_}

@@ -1,4 +1,5 @@
--- The session: its number, transaction ID, scheme, credentials, nodes, and how many responses were turned away. Assumes nothing.
+-- Document 01, Corners (mod.rs), Carried and added: the session, which is its number, transaction ID, scheme, credentials, nodes, and how many
+-- responses were turned away; its number step, node index and response step. Assumes nothing.
 use Prim.Native.Nat.{ℕ, suc, _+_, _-_, _*_, _/_, _%_}
 use mathlib.Core.Path.{_≡_}
 use mathlib.Core.List.{List, [], _∷_, _++_}
@@ -86,7 +87,7 @@ unfoldable pub firstPlace : List ℕ → ℕ → ℕ
 firstPlace [] node = 0
 firstPlace (n ∷ ns) node = choose (eqb n node) 0 (suc (firstPlace ns node))
 
--- a session has at most 64 nodes
+-- a session has at most 64 nodes. One that was made, or whose bytes passed `isSession`, has no more; this is for any record
 unfoldable pub listedCount : ℕ → ℕ
 listedCount n = choose (ltb n 64) n 64
 

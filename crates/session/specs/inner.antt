@@ -1,2 +1,2 @@
--- What only contracts of functions inside the crate cite.
+-- Definitions that only contracts of functions inside the crate cite.
 pub mod DerivationSteps

@@ -139,7 +139,8 @@ fn count_turned_away(context: AuthenticatedContext, number: u8) -> Authenticated
     next
 }
 
-// How many nodes a session's list has: at most 64.
+// How many nodes a session's list has: at most 64. A count over 64 cannot arise from a session that was made, or decoded from bytes that are
+// a session; it is cut, so that this is total.
 pub fn listed(node_count: u16) -> usize
     ensures { λ r. ⌜ (r ≡ listedCount «node_count») × (r ≤ 64) ⌝ }
 {

@@ -1,5 +1,5 @@
--- The rules of the tables that the code of AES goes by, and what the code makes of words of 32 bits. A word is a column of the state or a word
--- of the key schedule, its first byte highest. Assumes nothing.
+-- From no document: the rules of the tables that the AES code goes by, and what the code makes of words of 32 bits. A word is a column of the
+-- state or a word of the key schedule, its first byte highest. Assumes nothing.
 use mathlib.Core.Path.{_≡_}
 use mathlib.Core.List.{List, [], _∷_, _++_, map}
 use Prim.Native.Nat.{ℕ, _/_, _%_, _<_}

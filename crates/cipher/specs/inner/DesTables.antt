@@ -1,4 +1,4 @@
--- The words that the DES code works with: the bits that they stand for, and the rules of its two tables. Assumes nothing.
+-- From no document: the words that the DES code works with, the bits that they stand for, and the rules of its two tables. Assumes nothing.
 use Prim.Native.Nat.{ℕ, _+_, _-_, _*_, _/_, _%_, _^_, _<_}
 use mathlib.Core.Path.{_≡_}
 use mathlib.Core.Bool.{Bool, false}

@@ -1,4 +1,4 @@
--- DES under round keys that are at hand, packed as the code packs them (DesTables). Assumes nothing.
+-- From no document: DES under round keys that are at hand, packed as the code packs them (DesTables). Assumes nothing.
 use Prim.Native.Nat.{ℕ}
 use mathlib.Core.List.{List, map, reverse}
 use Rattle.cipher.specs.Bits.{toBits, toBytes}

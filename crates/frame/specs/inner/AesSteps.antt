@@ -1,4 +1,4 @@
--- AES opening in steps: what is left once there is a payload. Assumes nothing.
+-- From no document: AES opening in steps, what is left of it once there is a payload. Assumes nothing.
 use Prim.Native.Nat.{ℕ}
 use mathlib.Core.List.{List, [], _∷_}
 use Rattle.answer.specs.Number.{numberOf}

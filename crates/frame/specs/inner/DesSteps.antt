@@ -1,4 +1,4 @@
--- DES opening in steps: what is left once there is a plain text. Assumes nothing.
+-- From no document: DES opening in steps, what is left of it once there is a plain text. Assumes nothing.
 use Prim.Native.Nat.{ℕ}
 use mathlib.Core.List.{List}
 use Rattle.answer.specs.Delivery.{delivering}

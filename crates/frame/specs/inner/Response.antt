@@ -1,4 +1,4 @@
--- A parsed DES response, and its delivery. Assumes nothing.
+-- Document 01, Rust forms recast: a parsed DES response, which names the payload inside the decrypted bytes, and its delivery. Assumes nothing.
 use Prim.Native.Nat.{ℕ, _+_}
 use mathlib.Core.Path.{_≡_}
 use mathlib.Core.List.{List, [], _∷_}

@@ -1,4 +1,4 @@
--- What the steps of a derivation answer. Assumes nothing.
+-- From no document: what the steps of a derivation answer. Assumes nothing.
 use Prim.Native.Nat.{ℕ, _≤_}
 use mathlib.Core.Path.{_≡_}
 use mathlib.Core.List.{List, [], _∷_, _++_}
