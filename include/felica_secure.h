@@ -1,18 +1,18 @@
 // The FeliCa protocol's secure session, for C99 and C++11: key derivation, the challenges of an authentication, AES session keys; sealed
 // commands and responses in both schemes, response frames, Authentication 2, the DES registration package; the session. The archive is
-// libfelica_secure.a (`rt staticlib felica_secure`), for x86-64 Linux.
+// libfelica_secure.a, for x86-64 Linux.
 //
 // Proved, for every call whose buffers are as the caller's part below says: the call ends, and its answer and its whole output are those
-// of a definition in crates/session/specs or crates/frame/specs, which docs/STATUS.md names for each function.
+// of a definition in crates/*/specs, which docs/STATUS.md names for each function.
 //
 // The caller's part, which no proof can see:
 // - A pointer points to as many bytes as the length behind it says: readable ones, and writable ones for the output.
 // - The output overlaps no other buffer of the call.
 // - NULL with length 0 is tested (tests/c), not promised.
 //
-// What the archive does and does not do. It keeps no state, allocates nothing and calls nothing but memcpy and memset: it is reentrant. It
-// does not wipe its stack: key schedules and plain text stay there after the call. It looks tables up by secret bytes, so its time can tell
-// of them; comparisons of MACs, challenges and transaction IDs read all bytes (docs/GUIDE.md).
+// The archive keeps no state, allocates nothing and calls nothing but memcpy and memset. It is reentrant. It does not wipe its stack: key
+// schedules and plain text stay there after the call. It looks tables up by secret bytes, so its time can reveal them. Comparisons of MACs,
+// challenges and transaction IDs read all bytes. docs/GUIDE.md has more on both.
 #ifndef FELICA_SECURE_H
 #define FELICA_SECURE_H
 
@@ -27,7 +27,7 @@ extern "C" {
 
 #define FELICA_SCHEME_DES 1
 #define FELICA_SCHEME_AES128 2
-// For derivation alone: the keys choose the scheme.
+// For derivation only: the keys choose the scheme.
 #define FELICA_SCHEME_BY_KEYS 0
 
 // A key entry: node 2 (low byte first), algorithm 1, key 16, of which DES uses the first 8.
@@ -75,68 +75,52 @@ extern "C" {
 // The longest plain registration package. The package made of it is 8 bytes longer.
 #define FELICA_PACKAGE_MAX 4096
 
-// A session, as bytes that the caller keeps, and what the first of them is.
+// A session is bytes that the caller keeps: how many, and the value of the first.
 #define FELICA_SESSION_SIZE 178
 #define FELICA_SESSION_VERSION 1
 // The most nodes of a session.
 #define FELICA_SESSION_NODES_MAX 64
-// In place of the index of a node that a session does not have.
+// What felica_session_node_index gives for a node that the session does not have.
 #define FELICA_NODE_NOT_LISTED 64
 
-// ---- numbers (docs/NUMBERS.md). The first condition that holds, in the order that stands at each function, decides.
+// ---- numbers. docs/NUMBERS.md says when each is given, and what to do. The first condition that holds decides, in the order that stands
+// at each function.
 
 #define FELICA_OK 0
-// Over 128 keys, 32 areas, 32 services or 64 session nodes.
 #define FELICA_TOO_MANY_ENTRIES 1
-// The same node and algorithm twice in the keys.
 #define FELICA_SAME_KEY_TWICE 2
-// No area and no service.
 #define FELICA_NO_NODES 3
-// A needed node has no key.
 #define FELICA_KEY_MISSING 4
-// A node has a key of the other algorithm only.
 #define FELICA_OTHER_ALGORITHM 5
-// An individual key with DES.
 #define FELICA_INDIVIDUAL_KEY_WITH_DES 6
-// DES, no area.
 #define FELICA_DES_WITHOUT_AREA 7
-// DES, no service that bears a key.
 #define FELICA_DES_WITHOUT_KEYED_SERVICE 8
-// The transaction number is 0xFFFF.
 #define FELICA_NUMBER_EXHAUSTED 9
-// Not a multiple of 8 bytes, or an empty package.
 #define FELICA_NOT_WHOLE_BLOCKS 10
-// DES data under 16 bytes, AES data under 10.
 #define FELICA_TOO_SHORT 11
-// Over one of the limits above.
 #define FELICA_TOO_LONG 12
-// The MAC, or the 1B or 2B that is checked, differs.
 #define FELICA_MAC_DIFFERS 13
-// The DES transaction ID differs.
 #define FELICA_ID_DIFFERS 14
-// The number is not above the session's.
 #define FELICA_NUMBER_NOT_ABOVE 15
-// The output is smaller than what goes into it.
 #define FELICA_OUTPUT_TOO_SMALL 16
-// An unknown scheme mark, or a wrong fixed length.
 #define FELICA_BAD_MARK_OR_LENGTH 17
 
-// ---- the answer: one number of 64 bits. Bits 48 to 63 are 0.
+// ---- the answer is one number of 64 bits. Bits 48 to 63 are 0.
 
-// Bits 0 to 7: FELICA_OK, or why the call was turned down. A call that was turned down has written nothing, and every other bit of its
-// answer is 0, but for the node with FELICA_KEY_MISSING.
+// Bits 0 to 7: FELICA_OK, or the number of the refusal. A call that was turned down has written nothing to its output, and every other bit
+// of its answer is 0, but for the node with FELICA_KEY_MISSING.
 static inline uint8_t felica_answer_number(uint64_t answer)
 {
     return (uint8_t)(answer & 0xFF);
 }
 
-// Bits 8 to 15: the scheme mark that an accepted derivation used, or that felica_session_scheme tells, 1 or 2; else 0.
+// Bits 8 to 15: the scheme mark, 1 or 2, that an accepted derivation used or that a session has (felica_session_scheme); else 0.
 static inline uint8_t felica_answer_scheme(uint64_t answer)
 {
     return (uint8_t)((answer >> 8) & 0xFF);
 }
 
-// Bits 16 to 31: how many bytes were written, from the first of the output on. The rest of the output is as it was.
+// Bits 16 to 31: how many bytes were written, from the output's first byte on. The rest of the output is unchanged.
 static inline uint16_t felica_answer_length(uint64_t answer)
 {
     return (uint16_t)((answer >> 16) & 0xFFFF);
@@ -168,10 +152,10 @@ static inline uint16_t felica_answer_node(uint64_t answer)
 
 // ---- derivation
 
-// Derives the keys of an authentication from key entries and the areas and services that it is about. The mark forces DES or AES;
-// FELICA_SCHEME_BY_KEYS goes by the keys of a target, AES before DES: the last service that is not key-free, else the last service, else
-// the last area. A service is key-free if its low six bits are odd and lie in 9 to 23. An individual key of 0 bytes is none; with AES
-// it counts as sixteen zeros.
+// Derives the keys of an authentication from key entries and from the areas and services of the authentication. The mark forces DES or AES.
+// With FELICA_SCHEME_BY_KEYS the target's keys choose, AES before DES. The target is the last service that is not key-free, else the last
+// service, else the last area. A service is key-free if its low six bits are odd and lie in 9 to 23. An individual key of 0 bytes is none;
+// with AES it counts as sixteen zeros.
 // DES: the system key is encrypted under each area key (group key), then under the key of each service that is not key-free (user key).
 // Writes group and user key, 16 bytes. AES: 01 01, thirteen 00, 80 is encrypted under each area key and service key (group key). Writes
 // group and individual key, 32 bytes. The answer has the scheme that was used.
@@ -188,7 +172,7 @@ uint64_t felica_derive_auth_keys(uint8_t mark,
                                  uint8_t *out, size_t out_len);
 
 // ---- challenges, both schemes. Keys: what derivation wrote, FELICA_DES_DERIVED_KEYS_SIZE or FELICA_AES_DERIVED_KEYS_SIZE bytes as the
-// scheme mark says. IDm: FELICA_IDM_SIZE bytes. A random and a challenge are one block: 8 bytes with DES, 16 with AES. Challenge 3C:
+// scheme mark says. IDm: FELICA_IDM_SIZE bytes. A random and a challenge are one block each: 8 bytes with DES, 16 with AES. Challenge 3C:
 // FELICA_CHALLENGE_3C_SIZE bytes under both marks; DES does not use it.
 // Making and reading write one block. Refusals: 17 (mark, any of these lengths), 16.
 // Checking writes nothing. Refusals: 17 (mark, any of these lengths), 13 (the challenge is not the one that making gives).
@@ -253,8 +237,8 @@ uint64_t felica_verify_challenge2b(uint8_t scheme,
                                    const uint8_t *random_2, size_t random_2_len,
                                    const uint8_t *challenge_2b, size_t challenge_2b_len);
 
-// Derives the AES session keys from random 2, FELICA_AES_BLOCK_SIZE bytes. Writes cipher key and MAC key, 32 bytes: with Challenge 3C
-// behind them they are the credentials below.
+// Derives the AES session keys from random 2, FELICA_AES_BLOCK_SIZE bytes. Writes cipher key and MAC key, 32 bytes. These and Challenge 3C,
+// one behind the other, are the AES credentials below.
 // Refusals: 17 (random 2), 16.
 uint64_t felica_derive_secure_session_keys(const uint8_t *random_2, size_t random_2_len,
                                            uint8_t *out, size_t out_len);
@@ -270,9 +254,8 @@ uint64_t felica_encrypt_command(uint8_t scheme, uint8_t code, uint16_t number,
                                 const uint8_t *payload, size_t payload_len,
                                 uint8_t *out, size_t out_len);
 
-// Opens a sealed command or response: of a response frame, what follows the length byte and the code. Writes the payload, with DES
-// including its padding; the answer has the transaction number, which nothing here compares with the session's.
-// With AES writes data_len - 10 bytes, with DES data_len - 16.
+// Opens a sealed command or response. Of a response frame, pass what follows the length byte and the code. Writes the payload, with DES
+// including its padding: data_len - 10 bytes with AES, data_len - 16 with DES. The answer has the transaction number; the caller compares it.
 // Refusals, DES: 17 (mark, ID, credentials), 10, 11 (data under 16), 12 (data over 253), 13, 14, 16.
 // Refusals, AES: 17, 11 (data under 10), 12 (data over 253), 13, 16.
 uint64_t felica_decrypt_response(uint8_t scheme, uint8_t code,
@@ -281,7 +264,7 @@ uint64_t felica_decrypt_response(uint8_t scheme, uint8_t code,
                                  const uint8_t *data, size_t data_len,
                                  uint8_t *out, size_t out_len);
 
-// Makes a response frame. Writes a length byte, which counts itself, the code, then what felica_encrypt_command writes.
+// Makes a response frame. Writes a length byte, which counts itself too, the code, then what felica_encrypt_command writes.
 // Refusals: those of felica_encrypt_command; 16 is about the whole frame.
 uint64_t felica_build_secure_response_frame(uint8_t scheme, uint8_t code, uint16_t number,
                                             const uint8_t *id, size_t id_len,
@@ -296,8 +279,8 @@ uint64_t felica_forecast(uint8_t scheme, size_t payload_len);
 
 // ---- DES
 
-// Opens DES data as felica_decrypt_response does, and drops the padding that the payload's last byte tells of: v bytes where that byte v
-// is 1 to 7, whatever the others are, and nothing else. A payload in whole blocks that ends so loses its last v bytes too.
+// Opens DES data as felica_decrypt_response does, and drops what looks like padding: if the payload's last byte v is 1 to 7, its last v
+// bytes are dropped, whatever they are. A payload in whole blocks that ends in such a byte loses v bytes too.
 // Refusals: 17 (ID, key), 10, 11 (data under 16), 12 (data over 253), 13, 14, 16 (about the trimmed payload).
 uint64_t felica_decrypt_response_trimmed_des(uint8_t code,
                                              const uint8_t *id, size_t id_len,
@@ -333,14 +316,15 @@ uint64_t felica_decrypt_authentication2_payload_v2_aes128(const uint8_t *id, siz
                                                           uint8_t *out, size_t out_len);
 
 // ---- the session after an authentication: transaction number, transaction ID, scheme, credentials, nodes, and how many responses were
-// turned away. It is FELICA_SESSION_SIZE bytes, which the caller keeps between calls and hands back as they are; they hold secrets. All
-// that the library knows of a session is in these bytes, so the number and the count are as true as they are. Their layout is that of
-// the version, the first byte; another version has another.
-// Refusal 17 of each call here but the first: other than FELICA_SESSION_SIZE bytes, a first byte other than FELICA_SESSION_VERSION, or an
-// unknown scheme mark in them. A call that is turned down leaves them as they were, but for the count.
+// turned away. It is FELICA_SESSION_SIZE bytes. The caller keeps them between calls, and passes the bytes that the last call left. They hold
+// secrets. The library knows nothing of a session but these bytes: an older copy would reuse transaction numbers, so keep exactly one copy.
+// The first byte is the version of the layout.
+// Each call here but the first answers 17 where the bytes are no session: another size than FELICA_SESSION_SIZE, another first byte than
+// FELICA_SESSION_VERSION, an unknown scheme mark, or a node count over FELICA_SESSION_NODES_MAX. A call that is turned down leaves the bytes
+// as they were, but for the count.
 
-// Makes a session with its number, ID, credentials (FELICA_DES_KEY_SIZE or FELICA_AES_CREDENTIALS_SIZE bytes, as the scheme mark says) and
-// nodes, of FELICA_NODE_SIZE bytes each. Writes the session, FELICA_SESSION_SIZE bytes; the output has exactly as many.
+// Makes a session from its number, ID, credentials (FELICA_DES_KEY_SIZE or FELICA_AES_CREDENTIALS_SIZE bytes, as the scheme mark says) and
+// nodes, of FELICA_NODE_SIZE bytes each. Writes the session. The output has exactly FELICA_SESSION_SIZE bytes.
 // Refusals: 17 (mark, ID, credentials, nodes that are no whole number of entries, the output), 1 (over 64 nodes).
 uint64_t felica_session_new(uint8_t scheme, uint16_t number,
                             const uint8_t *id, size_t id_len,
@@ -348,7 +332,7 @@ uint64_t felica_session_new(uint8_t scheme, uint16_t number,
                             const uint8_t *nodes, size_t nodes_len,
                             uint8_t *session, size_t session_len);
 
-// Steps the number, before a command is sealed. The answer has the new number.
+// Steps the number. Call it before each command is sealed. The answer has the new number.
 // Refusals: 17, 9.
 uint64_t felica_session_increment_transaction_number(uint8_t *session, size_t session_len);
 
@@ -356,15 +340,15 @@ uint64_t felica_session_increment_transaction_number(uint8_t *session, size_t se
 // Refusal: 17.
 uint64_t felica_session_set_transaction_number(uint8_t *session, size_t session_len, uint16_t number);
 
-// Seals a command with the session's number, ID and credentials, as felica_encrypt_command does. It steps nothing: the next command is
-// felica_session_increment_transaction_number, then this. A number that was stepped for a sealing that is then refused is spent.
+// Seals a command with the session's number, ID and credentials, as felica_encrypt_command does. It does not step the number: call
+// felica_session_increment_transaction_number first. If the sealing is then refused, the number is spent all the same.
 // Refusals: 17, 12 (payload over 232 with DES, 243 with AES), 16.
 uint64_t felica_session_encrypt_command(const uint8_t *session, size_t session_len, uint8_t code,
                                         const uint8_t *payload, size_t payload_len,
                                         uint8_t *out, size_t out_len);
 
-// Opens a response (what follows the length byte and the code) as felica_decrypt_response does, requires its number to be above the
-// session's, and sets the session's number to it. A refusal from 10 to 15 is counted, up to 65,535; 16 and 17 are not.
+// Opens a response (what follows the length byte and the code) as felica_decrypt_response does. Its number has to be above the session's,
+// which is then set to it. Refusals from 10 to 15 are counted, up to 65,535; 16 and 17 are not.
 // Refusals, DES: 17, 10, 11, 12, 13, 14, 15, 16. Refusals, AES: 17, 11, 12, 13, 15, 16.
 uint64_t felica_session_apply_response(uint8_t *session, size_t session_len, uint8_t code,
                                        const uint8_t *data, size_t data_len,
