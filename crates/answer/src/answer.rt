@@ -1,7 +1,8 @@
 // What every operation answers.
 ghost use mathlib.Core.Path.{_≡_};
 
-// number: 0, or that of the refusal; length: how many bytes were written. A refusal has 0 in both other fields.
+// number: 0, or that of the refusal; length: how many bytes were written, or the size that a forecast gives; transaction_number: that of what was
+// opened, or a session's after its step. A refusal has 0 in both other fields.
 pub struct Answer {
     pub number: u8,
     pub length: u16,

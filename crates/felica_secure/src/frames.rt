@@ -1,4 +1,5 @@
-// Sealed data as C functions: commands, responses, Authentication 2, the size forecast, registration packages. Callers pass numbers and byte slices.
+// Sealed data as C functions: commands, responses, Authentication 2, the size forecast, registration packages. Callers pass numbers and byte
+// slices.
 use crate::pack;
 ghost use mathlib.Core.Path.{_≡_};
 ghost use lib.ListN.{length};

@@ -142,7 +142,8 @@ fn six_bytes(a: u8, b: u8, c: u8, d: u8, e: u8, f: u8) -> u64
     a as u64 + (b as u64 + (c as u64 + high * 256) * 256) * 256
 }
 
-// Whether two IDs are equal, in one step: where the compiler knows that six bytes are compared, it makes jumps of `ct_eq`.
+// Whether two IDs are equal, compared as two numbers. Knowing the length, the compiler would turn `ct_eq` into one branch per byte, which leaks
+// the position of the first difference.
 fn same_id(x: [u8; 6], y: [u8; 6]) -> bool
     ensures { λ r. ⌜ (r ≡ true → x ≡ y) × (x ≡ y → r ≡ true) ⌝ }
 {
@@ -198,7 +199,7 @@ impl<'a> SecureResponse<'a> {
     }
 }
 
-// The same by plain parameters: whoever calls this is proved in the common way.
+// The same by plain parameters, so that its callers need no proof by hand.
 fn parse_and_deliver<'a, 'b>(id: [u8; 6], plain: &'a [u8], out: &'b mut [u8]) -> Answer
     requires { ⌜ (16 ≤ length (now plain)) × (length (now plain) ≤ 256) ⌝ }
     ensures { λ r. ⌜ Meets (parsedDelivering id (now (plain .entry)) (length (now (out .entry)))) r (now (out .entry)) (now (out .exit)) ⌝ }

@@ -269,7 +269,7 @@ pub fn set_transaction_number(context: &mut AuthenticatedContext, value: u16)
     context.transaction_number = value;
 }
 
-// A session by value, lent for its step: whoever calls this needs no walk by hand.
+// Takes a session by value and lends it for its step, so that its callers need no proof by hand.
 pub fn advance(context: AuthenticatedContext) -> Stepped
     ensures { λ r. ⌜ Steps context (r .answer) (r .context) ⌝ }
 {
@@ -394,7 +394,7 @@ impl AuthenticatedContext {
         }
     }
 
-    // A response is refused, and counted if its number asks for it.
+    // Refuses a response, and counts it if the number is 10 to 15.
     fn turn_away(self, number: u8) -> Received
         ensures { λ r. ⌜ (r .answer .number ≡ number) × (r .answer .length ≡ 0) × (r .answer .«transaction_number» ≡ 0) × (r .context ≡ counting number self) ⌝ }
     {
@@ -413,7 +413,7 @@ impl AuthenticatedContext {
         open_with(self.scheme, code, id, credentials, data, out)
     }
 
-    // Seals a command with the session's scheme, credentials, ID and number, which is stepped before and by itself.
+    // Seals a command with the session's scheme, credentials, ID and number. The number step is a call of its own, before this one.
     pub fn encrypt_command(self, code: u8, payload: &[u8], out: &mut [u8]) -> Answer
         ensures { λ r. ⌜ Meets (sealing (self .scheme) (credentialsOf self) code (self .«transaction_number») (self .«transaction_id») (now (payload .entry)) (length (now (out .entry)))) r (now (out .entry)) (now (out .exit)) ⌝ }
     {

@@ -260,8 +260,8 @@ fn deliver(scheme: u8, first: &[u8], second: &[u8], out: &mut [u8]) -> DerivedAu
     }
 }
 
-// Derives the keys of an authentication. Mark 0 has the target's key choose the scheme; 1 and 2 force DES and AES, as the Rust's
-// derive_auth_keys_with_scheme does.
+// Derives the keys of an authentication. With mark 0 the target's keys choose the scheme, as in the Rust's derive_auth_keys; 1 and 2 force DES
+// and AES, as its derive_auth_keys_with_scheme does.
 pub fn derive_auth_keys(
     mark: u8,
     keys: &[u8],

@@ -1,4 +1,5 @@
-// The FeliCa secure session: service codes, key derivation, challenges of the authentication, and the session after it. No public function asks anything of its caller; a refusal has a number and writes nothing.
+// The FeliCa secure session: service codes, key derivation, challenges of the authentication, and the session after it. No public function asks
+// anything of its caller; a refusal has a number and writes nothing.
 mod challenge;
 mod context;
 mod des;
