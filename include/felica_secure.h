@@ -3,10 +3,10 @@
 // libfelica_secure.a, for x86-64 Linux.
 //
 // Proved, for every call whose buffers are as the caller's part below says: the call ends, and its answer and its whole output are those
-// of a definition in crates/*/specs, which docs/STATUS.md names for each function.
+// of a definition, which docs/STATUS.md names for each function (for the forecast, within a bound).
 //
 // The caller's part, which no proof can see:
-// - A pointer points to as many bytes as the length behind it says: readable ones, and writable ones for the output.
+// - Each pointer is valid for the length that follows it: readable, and writable for the output.
 // - The output overlaps no other buffer of the call.
 // - NULL with length 0 is tested (tests/c), not promised.
 //

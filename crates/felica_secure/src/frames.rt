@@ -72,7 +72,7 @@ pub extern "C" fn felica_forecast(scheme: u8, payload_len: usize) -> u64
     pack::pack(frame::forecast(scheme, payload_len))
 }
 
-// Opens DES data and drops the padding that the payload's last byte tells of.
+// Opens DES data and drops its padding, as the payload's last byte counts it.
 #[no_mangle]
 pub extern "C" fn felica_decrypt_response_trimmed_des(
     code: u8,

@@ -275,7 +275,7 @@ fn trim_count(v: u8) -> usize
     v as usize
 }
 
-// A payload without the padding that its last byte tells of.
+// A payload without its padding, as its last byte counts it.
 fn trim_payload(payload: &[u8]) -> &[u8]
     ensures { λ r. ⌜ now r ≡ trim (now (payload .entry)) ⌝ }
 {
