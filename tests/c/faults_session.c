@@ -43,6 +43,7 @@
     F(COUNT_STOPS, "response step: the count stops at 65,534") \
     F(COUNT_255, "response step: the count stops at 255") \
     F(COUNT_RESET, "response step: an acceptance takes the count to 0") \
+    F(INDEX_FORGED, "index: a number of nodes over 64 is cut to 64") \
     F(INDEX_LAST, "index: the last place") \
     F(INDEX_NONE, "index: 0 for a node that is not listed") \
     F(INDEX_ZEROS, "index: finds node 0 behind the list") \
@@ -296,11 +297,24 @@ uint64_t __wrap_felica_session_apply_response(KEPT, EXCHANGED)
 
 // ---- what is told
 
+// A session that says more than 64 nodes, as one of 64.
+static uint64_t index_of_forged(SHOWN, uint16_t node)
+{
+    uint8_t other[RECORD];
+
+    memcpy(other, session, size);
+    put(other, AT_LISTED, 64);
+    return __real_felica_session_node_index(other, size, node);
+}
+
 uint64_t __wrap_felica_session_node_index(SHOWN, uint16_t node)
 {
     uint64_t answer;
     unsigned i, last = 64;
 
+    if (fault == INDEX_FORGED && size == RECORD && get(session, AT_LISTED) > 64) {
+        return index_of_forged(PASS_SESSION, node);
+    }
     if (fault == INDEX_BYTES) {
         node = (uint16_t)(node % 256 * 256 + node / 256);
     }

@@ -160,10 +160,10 @@ static struct modelled apply(struct session *s, const struct call *c, size_t roo
     return t;
 }
 
-// The first place, or 64. A session has at most 64 nodes, whatever it says.
+// The first place, or 64. A session has at most 64 nodes: more of them are no session.
 static struct modelled place(const struct session *s, unsigned node)
 {
-    unsigned n = s->listed < 64 ? s->listed : 64, i = 0;
+    unsigned n = s->listed, i = 0;
 
     while (i < n && s->nodes[2 * i] + 256u * s->nodes[2 * i + 1] != node) {
         i++;
@@ -194,7 +194,7 @@ struct modelled session_call(struct session *s, const struct call *c, size_t roo
     case GIVE_ID:
         return writes(s->id, 6, 0, room);
     default:
-        return writes(s->nodes, 2 * (s->listed < 64 ? s->listed : 64), 0, room);
+        return writes(s->nodes, 2 * s->listed, 0, room);
     }
 }
 

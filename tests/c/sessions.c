@@ -39,6 +39,8 @@ static void sizes(void)
 
     memcpy(bytes, sample(13, sizeof bytes).at, sizeof bytes);
     bytes[AT_VERSION] = 1;
+    bytes[AT_LISTED] = 5;
+    bytes[AT_LISTED + 1] = 0;
     for (n = 0; n <= 434; n++) {
         bytes[AT_SCHEME] = (uint8_t)(1 + n % 2);
         if (n != RECORD) {
@@ -69,6 +71,20 @@ static void versions_and_marks(unsigned scheme)
         if (b != 1 && b != 2) {
             is_none(bytes, RECORD);
         }
+    }
+}
+
+// Every number of nodes over 64, which no making gives; those up to 64 are sessions (parts).
+static void forged_lists(unsigned scheme)
+{
+    struct session s = session_of(scheme, 14, 64);
+    uint8_t bytes[RECORD];
+    unsigned n;
+
+    for (n = 65; n <= 0xFFFF; n += n < 1024 || n > 0xFC00 ? 1 : 257) {
+        s.listed = n;
+        write_session(&s, bytes);
+        is_none(bytes, RECORD);
     }
 }
 
@@ -200,13 +216,11 @@ static void all_told(const struct session *s)
     c = with_session(GIVE_ID, bytes);
     gives(&c, 0, 6, s->id, NULL);
     c = with_session(GIVE_NODES, bytes);
-    gives(&c, 0, 2 * (s->listed < 64 ? s->listed : 64), s->nodes, NULL);
+    gives(&c, 0, 2 * s->listed, s->nodes, NULL);
 }
 
-// Numbers of nodes that no making gives count as 64.
 static void parts(unsigned scheme)
 {
-    static const unsigned over[] = {65, 100, 128, 255, 256, 257, 0x4000, 0x8000, 0xFFFF};
     struct session s;
     unsigned i;
 
@@ -215,23 +229,17 @@ static void parts(unsigned scheme)
         s.turned = i * 52711 % 65536;
         all_told(&s);
     }
-    for (i = 0; i < sizeof over / sizeof over[0]; i++) {
-        s.listed = over[i];
-        all_told(&s);
-        holds(&s, with_session(STEP, NULL), 0, i);
-    }
 }
 
 // Every node against a list: its first place. The zeros behind a list are no nodes of it.
 static void indexes(unsigned scheme, unsigned listed, unsigned seed)
 {
-    struct session s = session_of(scheme, seed, listed < 64 ? listed : 64);
+    struct session s = session_of(scheme, seed, listed);
     uint8_t bytes[RECORD];
     struct call c = with_session(INDEX, bytes);
     unsigned node, i;
 
-    s.listed = listed;
-    for (i = 0; i < listed && i < 64; i++) {
+    for (i = 0; i < listed; i++) {
         // some of them twice, and their neighbours by a byte
         s.nodes[2 * i] = (uint8_t)(i % 5 == 4 ? s.nodes[0] : seed + i % 50 * 3);
         s.nodes[2 * i + 1] = (uint8_t)(i % 5 == 4 ? s.nodes[1] : i % 7 * 37 + 1);
@@ -412,10 +420,11 @@ static void behind_the_key(void)
 
 static void by_scheme(unsigned scheme)
 {
-    static const unsigned lists[] = {0, 1, 2, 31, 63, 64, 65, 0xFFFF};
+    static const unsigned lists[] = {0, 1, 2, 31, 63, 64};
     size_t n;
 
     versions_and_marks(scheme);
+    forged_lists(scheme);
     node_lists(scheme);
     makings(scheme);
     making_orders(scheme);
