@@ -379,7 +379,7 @@ class Case:
         self.replies = []
 
     def handed(self):
-        """The size and the mask of a session: at times another size, another version, an unknown mark."""
+        """The size and the mask of a session: at times another size, another version, an unknown mark, more than 64 nodes."""
         state, kind = self.history.state, self.r.below(60)
         if kind == 0:
             return self.r.one_of((0, 1, 2, 177, 179, 356)), b""
@@ -387,6 +387,8 @@ class Case:
             return SESSION_SIZE, self.r.one_of((b"\1", b"\2", b"\xff"))
         if kind == 2 and state:
             return SESSION_SIZE, bytes([0, self.r.one_of((state.scheme, 4, 0x80, 0xFC))])
+        if kind == 3 and state:
+            return SESSION_SIZE, bytes([0, 0, 0, 0, 0, 0, *self.r.one_of(((0x80, 0), (0, 1), (0xFF, 0xFF)))])
         return SESSION_SIZE, b""
 
     def response_number(self, own):

@@ -173,8 +173,8 @@ def no_session(rules, operation, inputs):
     state, size, mask = inputs[:3]
     if state is None or size != SESSION_SIZE:
         return True
-    version, mark = (own ^ other for own, other in zip((VERSION, state.scheme), mask.ljust(2, b"\0")))
-    return version != VERSION or mark not in (DES, AES)
+    head = bytes(own ^ other for own, other in zip(state.layout(), mask.ljust(8, b"\0")))
+    return head[0] != VERSION or head[1] not in (DES, AES) or int.from_bytes(head[6:8], "little") > 64
 
 
 def too_many(rules, operation, inputs):

@@ -9,7 +9,7 @@ use Rattle.answer.specs.Outcome.{over}
 
 pub length-over : (b o : List ℕ) → length b ≤ length o → length (over b o) ≡ length o
 unfolding over
-length-over b o h = simp (length-append, length-drop) (omega arith)
+length-over b o h = length-append b (drop (length b) o) ∙ ap (λ (k : ℕ). length b + k) (length-drop (length b) o) ∙ omega arith
 
 -- an output is its own front, over itself
 pub over-self : (o : List ℕ) (n : ℕ) → n ≤ length o → o ≡ over (take n o) o

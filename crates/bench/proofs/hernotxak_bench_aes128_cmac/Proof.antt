@@ -6,21 +6,6 @@ use borrow.Author.Needs.{needs}
 use Rattle.bench.proofs.hernotxak_bench_aes128_cmac.Statement.{statement}
 use Rattle.bench.proofs.hernotxak_bench_aes128_cmac.Tie as tie
 
-first16-requires : tie.Need-first16-requires
-first16-requires c κs = search needs
-
-aes128-cmac-requires : tie.Need-aes128-cmac-requires
-aes128-cmac-requires c κs = search needs
-
-slice-aggregate-copy : tie.Need-slice-aggregate-copy
-slice-aggregate-copy c = search needs
-
-copy-requires : tie.Need-copy-requires
-copy-requires c κs = search needs
-
-same-length : tie.Need-same-length
-same-length c = search needs
-
 returns : tie.Need-returns
 returns c =
     let called = c .before .before .before .before .before in
@@ -33,9 +18,9 @@ pub hernotxak-bench-aes128-cmac-spec : {M : Type 1} → statement M
 hernotxak-bench-aes128-cmac-spec =
     tie.close
     (tie.spec
-    first16-requires
-    aes128-cmac-requires
-    slice-aggregate-copy
-    copy-requires
-    same-length
+    (λ c κs. search needs)
+    (λ c κs. search needs)
+    (λ c. search needs)
+    (λ c κs. search needs)
+    (λ c. search needs)
     returns)

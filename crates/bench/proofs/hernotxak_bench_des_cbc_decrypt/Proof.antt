@@ -9,18 +9,6 @@ use borrow.Author.Needs.{needs}
 use Rattle.bench.proofs.hernotxak_bench_des_cbc_decrypt.Statement.{statement}
 use Rattle.bench.proofs.hernotxak_bench_des_cbc_decrypt.Tie as tie
 
-first8-requires : tie.Need-first8-requires
-first8-requires c κs = search needs
-
-decrypt-des-cbc-zero-iv-requires : tie.Need-decrypt-des-cbc-zero-iv-requires
-decrypt-des-cbc-zero-iv-requires c κs = search needs
-
-number-requires : tie.Need-number-requires
-number-requires c κs = search needs
-
-same-length : tie.Need-same-length
-same-length c = search needs
-
 returns : tie.Need-returns
 returns c =
     let called = c .before .before .before in
@@ -33,4 +21,4 @@ returns c =
 pub hernotxak-bench-des-cbc-decrypt-spec : {M : Type 1} → statement M
 hernotxak-bench-des-cbc-decrypt-spec =
     tie.close
-    (tie.spec first8-requires decrypt-des-cbc-zero-iv-requires number-requires same-length returns)
+    (tie.spec (λ c κs. search needs) (λ c κs. search needs) (λ c κs. search needs) (λ c. search needs) returns)

@@ -9,18 +9,6 @@ use borrow.Author.Needs.{needs}
 use Rattle.bench.proofs.hernotxak_bench_des_cbc_encrypt.Statement.{statement}
 use Rattle.bench.proofs.hernotxak_bench_des_cbc_encrypt.Tie as tie
 
-first8-requires : tie.Need-first8-requires
-first8-requires c κs = search needs
-
-encrypt-des-cbc-zero-iv-requires : tie.Need-encrypt-des-cbc-zero-iv-requires
-encrypt-des-cbc-zero-iv-requires c κs = search needs
-
-number-requires : tie.Need-number-requires
-number-requires c κs = search needs
-
-same-length : tie.Need-same-length
-same-length c = search needs
-
 returns : tie.Need-returns
 returns c =
     let called = c .before .before .before in
@@ -33,4 +21,4 @@ returns c =
 pub hernotxak-bench-des-cbc-encrypt-spec : {M : Type 1} → statement M
 hernotxak-bench-des-cbc-encrypt-spec =
     tie.close
-    (tie.spec first8-requires encrypt-des-cbc-zero-iv-requires number-requires same-length returns)
+    (tie.spec (λ c κs. search needs) (λ c κs. search needs) (λ c κs. search needs) (λ c. search needs) returns)

@@ -8,23 +8,11 @@ use borrow.Author.Needs.{needs}
 use Rattle.answer.proofs.delivery.deliver.Statement.{statement}
 use Rattle.answer.proofs.delivery.deliver.Tie as tie
 
-refused-requires : tie.Need-refused-requires
-refused-requires c κs = search needs
-
 returns : tie.Need-returns
 returns c =
     let i = c .before in
     let a = i .before .before .before .args in
     λ h. rw (no-room (a .transaction-number) (a .payload .now) (length (a .out .now)) (i .if1 .taken)) (refused-meets 16 _ (a .out .now) (c .refused .ensures))
-
-copy-requires : tie.Need-copy-requires
-copy-requires c κs = search needs
-
-cast-t10 : tie.Need-cast-t10
-cast-t10 c = search needs
-
-same-length : tie.Need-same-length
-same-length c = search needs
 
 returns-2 : tie.Need-returns-2
 returns-2 c =
@@ -36,4 +24,4 @@ returns-2 c =
     (accepted-meets _ (a .payload .now) _ (a .out .now) _ refl (omega (arith, h)) refl (copied-over (a .payload .now) (a .out .now) _ (i .if1 .left) (cp .copy .ensures)))
 
 pub deliver-spec : {M : Type 1} → statement M
-deliver-spec = tie.close (tie.spec refused-requires returns copy-requires cast-t10 same-length returns-2)
+deliver-spec = tie.close (tie.spec (λ c κs. search needs) returns (λ c κs. search needs) (λ c. search needs) (λ c. search needs) returns-2)

@@ -23,9 +23,6 @@ mul-r c = omega arith
 shared-slice-read-r : tie.Need-shared-slice-read-r
 shared-slice-read-r c = omega arith
 
-rotated-requires : tie.Need-rotated-requires
-rotated-requires c κs = search needs
-
 cast-q : tie.Need-cast-q
 cast-q c = omega arith
 
@@ -35,9 +32,6 @@ mul-q c = omega arith
 shared-slice-read-q : tie.Need-shared-slice-read-q
 shared-slice-read-q c = omega arith
 
-rotated-requires-2 : tie.Need-rotated-requires-2
-rotated-requires-2 c κs = search needs
-
 cast-result : tie.Need-cast-result
 cast-result c = omega arith
 
@@ -46,9 +40,6 @@ mul-result c = omega arith
 
 shared-slice-read-result : tie.Need-shared-slice-read-result
 shared-slice-read-result c = omega arith
-
-rotated-requires-3 : tie.Need-rotated-requires-3
-rotated-requires-3 c κs = search needs
 
 returns : tie.Need-returns
 returns c =
@@ -65,13 +56,13 @@ column-spec =
     cast-r
     mul-r
     shared-slice-read-r
-    rotated-requires
+    (λ c κs. search needs)
     cast-q
     mul-q
     shared-slice-read-q
-    rotated-requires-2
+    (λ c κs. search needs)
     cast-result
     mul-result
     shared-slice-read-result
-    rotated-requires-3
+    (λ c κs. search needs)
     returns)

@@ -7,35 +7,17 @@ use borrow.Author.Needs.{needs}
 use Rattle.cipher.proofs.aes.decrypt_with.Statement.{statement}
 use Rattle.cipher.proofs.aes.decrypt_with.Tie as tie
 
-inv-rounds-requires : tie.Need-inv-rounds-requires
-inv-rounds-requires c κs = search needs
-
-unsubstituted-requires : tie.Need-unsubstituted-requires
-unsubstituted-requires c κs = search needs
-
 shared-slice-read-t8 : tie.Need-shared-slice-read-t8
 shared-slice-read-t8 c = omega arith
-
-unsubstituted-requires-2 : tie.Need-unsubstituted-requires-2
-unsubstituted-requires-2 c κs = search needs
 
 shared-slice-read-t12 : tie.Need-shared-slice-read-t12
 shared-slice-read-t12 c = omega arith
 
-unsubstituted-requires-3 : tie.Need-unsubstituted-requires-3
-unsubstituted-requires-3 c κs = search needs
-
 shared-slice-read-t16 : tie.Need-shared-slice-read-t16
 shared-slice-read-t16 c = omega arith
 
-unsubstituted-requires-4 : tie.Need-unsubstituted-requires-4
-unsubstituted-requires-4 c κs = search needs
-
 shared-slice-read-t20 : tie.Need-shared-slice-read-t20
 shared-slice-read-t20 c = omega arith
-
-store-requires : tie.Need-store-requires
-store-requires c κs = search needs
 
 returns : tie.Need-returns
 unfolding _⊕_
@@ -53,14 +35,14 @@ pub decrypt-with-spec : {M : Type 1} → statement M
 decrypt-with-spec =
     tie.close
     (tie.spec
-    inv-rounds-requires
-    unsubstituted-requires
+    (λ c κs. search needs)
+    (λ c κs. search needs)
     shared-slice-read-t8
-    unsubstituted-requires-2
+    (λ c κs. search needs)
     shared-slice-read-t12
-    unsubstituted-requires-3
+    (λ c κs. search needs)
     shared-slice-read-t16
-    unsubstituted-requires-4
+    (λ c κs. search needs)
     shared-slice-read-t20
-    store-requires
+    (λ c κs. search needs)
     returns)

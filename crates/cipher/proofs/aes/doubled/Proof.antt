@@ -5,15 +5,9 @@ use Rattle.cipher.specs.Fips197.{xtime}
 use Rattle.cipher.proofs.aes.doubled.Statement.{statement}
 use Rattle.cipher.proofs.aes.doubled.Tie as tie
 
-mul-result : tie.Need-mul-result
-mul-result c = search needs
-
-mul-result-2 : tie.Need-mul-result-2
-mul-result-2 c = search needs
-
 returns : tie.Need-returns
 unfolding xtime
 returns c = refl
 
 pub doubled-spec : {M : Type 1} → statement M
-doubled-spec = tie.close (tie.spec mul-result mul-result-2 returns)
+doubled-spec = tie.close (tie.spec (λ c. search needs) (λ c. search needs) returns)

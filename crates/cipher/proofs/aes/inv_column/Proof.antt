@@ -4,12 +4,6 @@ use borrow.Author.Needs.{needs}
 use Rattle.cipher.proofs.aes.inv_column.Statement.{statement}
 use Rattle.cipher.proofs.aes.inv_column.Tie as tie
 
-unsubstituted-requires : tie.Need-unsubstituted-requires
-unsubstituted-requires c κs = search needs
-
-column-requires : tie.Need-column-requires
-column-requires c κs = search needs
-
 returns : tie.Need-returns
 returns c =
     let u = c .before .unsubstituted in
@@ -17,4 +11,4 @@ returns c =
     inv-column-made (s .args .a) (s .args .b) (s .args .c) (s .args .d) (s .args .k) (u .result) (c .column .result) (u .ensures) (c .column .ensures 0x0e 0x0b 0x0d 0x09 (λ x. x) (s .pre .0))
 
 pub inv-column-spec : {M : Type 1} → statement M
-inv-column-spec = tie.close (tie.spec unsubstituted-requires column-requires returns)
+inv-column-spec = tie.close (tie.spec (λ c κs. search needs) (λ c κs. search needs) returns)

@@ -6,14 +6,8 @@ use borrow.Author.Needs.{needs}
 use Rattle.cipher.proofs.aes.join.Statement.{statement}
 use Rattle.cipher.proofs.aes.join.Tie as tie
 
-wide-requires : tie.Need-wide-requires
-wide-requires c κs = search needs
-
 mul-result : tie.Need-mul-result
 mul-result c = omega arith
-
-wide-requires-2 : tie.Need-wide-requires-2
-wide-requires-2 c κs = search needs
 
 mul-result-2 : tie.Need-mul-result-2
 mul-result-2 c = omega arith
@@ -21,17 +15,11 @@ mul-result-2 c = omega arith
 add-result : tie.Need-add-result
 add-result c = omega arith
 
-wide-requires-3 : tie.Need-wide-requires-3
-wide-requires-3 c κs = search needs
-
 mul-result-3 : tie.Need-mul-result-3
 mul-result-3 c = omega arith
 
 add-result-2 : tie.Need-add-result-2
 add-result-2 c = omega arith
-
-wide-requires-4 : tie.Need-wide-requires-4
-wide-requires-4 c κs = search needs
 
 add-result-3 : tie.Need-add-result-3
 add-result-3 c = omega arith
@@ -49,14 +37,14 @@ pub join-spec : {M : Type 1} → statement M
 join-spec =
     tie.close
     (tie.spec
-    wide-requires
+    (λ c κs. search needs)
     mul-result
-    wide-requires-2
+    (λ c κs. search needs)
     mul-result-2
     add-result
-    wide-requires-3
+    (λ c κs. search needs)
     mul-result-3
     add-result-2
-    wide-requires-4
+    (λ c κs. search needs)
     add-result-3
     returns)

@@ -21,9 +21,6 @@ array-read-join-3 c = omega arith
 array-read-join-4 : tie.Need-array-read-join-4
 array-read-join-4 c = omega arith
 
-join-requires : tie.Need-join-requires
-join-requires c κs = search needs
-
 array-read-join-5 : tie.Need-array-read-join-5
 array-read-join-5 c = omega arith
 
@@ -35,9 +32,6 @@ array-read-join-7 c = omega arith
 
 array-read-join-8 : tie.Need-array-read-join-8
 array-read-join-8 c = omega arith
-
-join-requires-2 : tie.Need-join-requires-2
-join-requires-2 c κs = search needs
 
 array-read-join-9 : tie.Need-array-read-join-9
 array-read-join-9 c = omega arith
@@ -51,9 +45,6 @@ array-read-join-11 c = omega arith
 array-read-join-12 : tie.Need-array-read-join-12
 array-read-join-12 c = omega arith
 
-join-requires-3 : tie.Need-join-requires-3
-join-requires-3 c κs = search needs
-
 array-read-join-13 : tie.Need-array-read-join-13
 array-read-join-13 c = omega arith
 
@@ -65,9 +56,6 @@ array-read-join-15 c = omega arith
 
 array-read-join-16 : tie.Need-array-read-join-16
 array-read-join-16 c = omega arith
-
-join-requires-4 : tie.Need-join-requires-4
-join-requires-4 c κs = search needs
 
 returns : tie.Need-returns
 unfolding tab
@@ -85,20 +73,20 @@ load-spec =
     array-read-join-2
     array-read-join-3
     array-read-join-4
-    join-requires
+    (λ c κs. search needs)
     array-read-join-5
     array-read-join-6
     array-read-join-7
     array-read-join-8
-    join-requires-2
+    (λ c κs. search needs)
     array-read-join-9
     array-read-join-10
     array-read-join-11
     array-read-join-12
-    join-requires-3
+    (λ c κs. search needs)
     array-read-join-13
     array-read-join-14
     array-read-join-15
     array-read-join-16
-    join-requires-4
+    (λ c κs. search needs)
     returns)

@@ -5,21 +5,6 @@ use Rattle.cipher.proofs.AesRounds.{added-to, mixed-made}
 use Rattle.cipher.proofs.aes.round.Statement.{statement}
 use Rattle.cipher.proofs.aes.round.Tie as tie
 
-column-requires : tie.Need-column-requires
-column-requires c κs = search needs
-
-column-requires-2 : tie.Need-column-requires-2
-column-requires-2 c κs = search needs
-
-column-requires-3 : tie.Need-column-requires-3
-column-requires-3 c κs = search needs
-
-column-requires-4 : tie.Need-column-requires-4
-column-requires-4 c κs = search needs
-
-added-requires : tie.Need-added-requires
-added-requires c κs = search needs
-
 returns : tie.Need-returns
 returns c =
     let c4 = c .before in
@@ -36,9 +21,9 @@ pub round-spec : {M : Type 1} → statement M
 round-spec =
     tie.close
     (tie.spec
-    column-requires
-    column-requires-2
-    column-requires-3
-    column-requires-4
-    added-requires
+    (λ c κs. search needs)
+    (λ c κs. search needs)
+    (λ c κs. search needs)
+    (λ c κs. search needs)
+    (λ c κs. search needs)
     returns)

@@ -32,9 +32,6 @@ cast-s c = omega arith
 shared-slice-read-s : tie.Need-shared-slice-read-s
 shared-slice-read-s c = omega arith
 
-join-requires : tie.Need-join-requires
-join-requires c κs = search needs
-
 returns : tie.Need-returns
 unfolding diagonal
 returns c =
@@ -56,5 +53,5 @@ unsubstituted-spec =
     shared-slice-read-r
     cast-s
     shared-slice-read-s
-    join-requires
+    (λ c κs. search needs)
     returns)

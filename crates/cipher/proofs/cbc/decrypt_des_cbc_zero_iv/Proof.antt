@@ -11,30 +11,6 @@ use Rattle.cipher.proofs.cbc.decrypt_des_cbc_zero_iv.Tie as tie
 returns : tie.Need-returns
 returns c = off-whole 8 _ _ (c .if1 .taken)
 
-sp-table-requires : tie.Need-sp-table-requires
-sp-table-requires c κs = search needs
-
-pc2-table-requires : tie.Need-pc2-table-requires
-pc2-table-requires c κs = search needs
-
-slice-aggregate-schedule : tie.Need-slice-aggregate-schedule
-slice-aggregate-schedule c = search needs
-
-schedule-requires : tie.Need-schedule-requires
-schedule-requires c κs = search needs
-
-slice-aggregate-decrypt-blocks : tie.Need-slice-aggregate-decrypt-blocks
-slice-aggregate-decrypt-blocks c = search needs
-
-slice-aggregate-decrypt-blocks-2 : tie.Need-slice-aggregate-decrypt-blocks-2
-slice-aggregate-decrypt-blocks-2 c = search needs
-
-decrypt-blocks-requires : tie.Need-decrypt-blocks-requires
-decrypt-blocks-requires c κs = search needs
-
-same-length : tie.Need-same-length
-same-length c = search needs
-
 returns-2 : tie.Need-returns-2
 returns-2 c =
     let sch = c .before .before .before .before .before .before in
@@ -48,12 +24,12 @@ decrypt-des-cbc-zero-iv-spec =
     tie.close
     (tie.spec
     returns
-    sp-table-requires
-    pc2-table-requires
-    slice-aggregate-schedule
-    schedule-requires
-    slice-aggregate-decrypt-blocks
-    slice-aggregate-decrypt-blocks-2
-    decrypt-blocks-requires
-    same-length
+    (λ c κs. search needs)
+    (λ c κs. search needs)
+    (λ c. search needs)
+    (λ c κs. search needs)
+    (λ c. search needs)
+    (λ c. search needs)
+    (λ c κs. search needs)
+    (λ c. search needs)
     returns-2)

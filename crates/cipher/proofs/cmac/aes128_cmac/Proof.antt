@@ -7,24 +7,6 @@ use borrow.Author.Needs.{needs}
 use Rattle.cipher.proofs.cmac.aes128_cmac.Statement.{statement}
 use Rattle.cipher.proofs.cmac.aes128_cmac.Tie as tie
 
-te-table-requires : tie.Need-te-table-requires
-te-table-requires c κs = search needs
-
-slice-aggregate-expand : tie.Need-slice-aggregate-expand
-slice-aggregate-expand c = search needs
-
-expand-requires : tie.Need-expand-requires
-expand-requires c κs = search needs
-
-slice-aggregate-mac-from : tie.Need-slice-aggregate-mac-from
-slice-aggregate-mac-from c = search needs
-
-slice-aggregate-mac-from-2 : tie.Need-slice-aggregate-mac-from-2
-slice-aggregate-mac-from-2 c = search needs
-
-mac-from-requires : tie.Need-mac-from-requires
-mac-from-requires c κs = search needs
-
 returns : tie.Need-returns
 unfolding aesEncrypt cmac
 returns c =
@@ -36,10 +18,10 @@ pub aes128-cmac-spec : {M : Type 1} → statement M
 aes128-cmac-spec =
     tie.close
     (tie.spec
-    te-table-requires
-    slice-aggregate-expand
-    expand-requires
-    slice-aggregate-mac-from
-    slice-aggregate-mac-from-2
-    mac-from-requires
+    (λ c κs. search needs)
+    (λ c. search needs)
+    (λ c κs. search needs)
+    (λ c. search needs)
+    (λ c. search needs)
+    (λ c κs. search needs)
     returns)

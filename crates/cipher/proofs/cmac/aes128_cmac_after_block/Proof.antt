@@ -7,24 +7,6 @@ use borrow.Author.Needs.{needs}
 use Rattle.cipher.proofs.cmac.aes128_cmac_after_block.Statement.{statement}
 use Rattle.cipher.proofs.cmac.aes128_cmac_after_block.Tie as tie
 
-te-table-requires : tie.Need-te-table-requires
-te-table-requires c κs = search needs
-
-slice-aggregate-expand : tie.Need-slice-aggregate-expand
-slice-aggregate-expand c = search needs
-
-expand-requires : tie.Need-expand-requires
-expand-requires c κs = search needs
-
-slice-aggregate-mac-after-block : tie.Need-slice-aggregate-mac-after-block
-slice-aggregate-mac-after-block c = search needs
-
-slice-aggregate-mac-after-block-2 : tie.Need-slice-aggregate-mac-after-block-2
-slice-aggregate-mac-after-block-2 c = search needs
-
-mac-after-block-requires : tie.Need-mac-after-block-requires
-mac-after-block-requires c κs = search needs
-
 returns : tie.Need-returns
 unfolding aesEncrypt
 returns c =
@@ -36,10 +18,10 @@ pub aes128-cmac-after-block-spec : {M : Type 1} → statement M
 aes128-cmac-after-block-spec =
     tie.close
     (tie.spec
-    te-table-requires
-    slice-aggregate-expand
-    expand-requires
-    slice-aggregate-mac-after-block
-    slice-aggregate-mac-after-block-2
-    mac-after-block-requires
+    (λ c κs. search needs)
+    (λ c. search needs)
+    (λ c κs. search needs)
+    (λ c. search needs)
+    (λ c. search needs)
+    (λ c κs. search needs)
     returns)

@@ -13,22 +13,10 @@ use borrow.Author.Needs.{needs}
 use Rattle.cipher.proofs.cmac.mac_after_block.Statement.{statement}
 use Rattle.cipher.proofs.cmac.mac_after_block.Tie as tie
 
-slice-aggregate-mac-from : tie.Need-slice-aggregate-mac-from
-slice-aggregate-mac-from c = search needs
-
-mac-from-requires : tie.Need-mac-from-requires
-mac-from-requires c κs = search needs
-
 returns : tie.Need-returns
 returns c =
     let a = c .before .before .before .before .before .before .args in
     c .mac-from .ensures ∙ cmac-alone (cipher (wordsBytes (a .w .now))) 16 R128 (lit< tt) (a .t3) (a .«data» .now) (c .before .before .if1 .taken)
-
-encrypt-with-requires : tie.Need-encrypt-with-requires
-encrypt-with-requires c κs = search needs
-
-mac-from-requires-2 : tie.Need-mac-from-requires-2
-mac-from-requires-2 c κs = search needs
 
 returns-2 : tie.Need-returns-2
 returns-2 c =
@@ -42,9 +30,9 @@ pub mac-after-block-spec : {M : Type 1} → statement M
 mac-after-block-spec =
     tie.close
     (tie.spec
-    slice-aggregate-mac-from
-    mac-from-requires
+    (λ c. search needs)
+    (λ c κs. search needs)
     returns
-    encrypt-with-requires
-    mac-from-requires-2
+    (λ c κs. search needs)
+    (λ c κs. search needs)
     returns-2)

@@ -6,27 +6,6 @@ use Rattle.cipher.proofs.BitWords.{bits-xor}
 use Rattle.cipher.proofs.des.half_key.Tie as tie
 use Rattle.cipher.proofs.des.half_key.Statement.{statement}
 
-pick7-requires : tie.Need-pick7-requires
-pick7-requires c κs = search needs
-
-add-pick7 : tie.Need-add-pick7
-add-pick7 c = search needs
-
-pick7-requires-2 : tie.Need-pick7-requires-2
-pick7-requires-2 c κs = search needs
-
-add-pick7-2 : tie.Need-add-pick7-2
-add-pick7-2 c = search needs
-
-pick7-requires-3 : tie.Need-pick7-requires-3
-pick7-requires-3 c κs = search needs
-
-add-pick7-3 : tie.Need-add-pick7-3
-add-pick7-3 c = search needs
-
-pick7-requires-4 : tie.Need-pick7-requires-4
-pick7-requires-4 c κs = search needs
-
 returns : tie.Need-returns
 returns c =
     let p3 = c .before in
@@ -40,11 +19,11 @@ pub half-key-spec : {M : Type 1} → statement M
 half-key-spec =
     tie.close
     (tie.spec
-    pick7-requires
-    add-pick7
-    pick7-requires-2
-    add-pick7-2
-    pick7-requires-3
-    add-pick7-3
-    pick7-requires-4
+    (λ c κs. search needs)
+    (λ c. search needs)
+    (λ c κs. search needs)
+    (λ c. search needs)
+    (λ c κs. search needs)
+    (λ c. search needs)
+    (λ c κs. search needs)
     returns)

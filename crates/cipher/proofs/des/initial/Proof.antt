@@ -6,18 +6,6 @@ use Rattle.cipher.proofs.DesWords.{initial-word}
 use Rattle.cipher.proofs.des.initial.Statement.{statement}
 use Rattle.cipher.proofs.des.initial.Tie as tie
 
-load-requires : tie.Need-load-requires
-load-requires c κs = search needs
-
-transpose-requires : tie.Need-transpose-requires
-transpose-requires c κs = search needs
-
-delta-swap-requires : tie.Need-delta-swap-requires
-delta-swap-requires c κs = search needs
-
-delta-swap-requires-2 : tie.Need-delta-swap-requires-2
-delta-swap-requires-2 c κs = search needs
-
 returns : tie.Need-returns
 returns c =
     let z = c .before in
@@ -30,4 +18,4 @@ returns c =
 pub initial-spec : {M : Type 1} → statement M
 initial-spec =
     tie.close
-    (tie.spec load-requires transpose-requires delta-swap-requires delta-swap-requires-2 returns)
+    (tie.spec (λ c κs. search needs) (λ c κs. search needs) (λ c κs. search needs) (λ c κs. search needs) returns)

@@ -6,27 +6,6 @@ use Rattle.cipher.proofs.DesWords.{last-word}
 use Rattle.cipher.proofs.des.last.Tie as tie
 use Rattle.cipher.proofs.des.last.Statement.{statement}
 
-turn-right-1-requires : tie.Need-turn-right-1-requires
-turn-right-1-requires c κs = search needs
-
-turn-right-1-requires-2 : tie.Need-turn-right-1-requires-2
-turn-right-1-requires-2 c κs = search needs
-
-joined-requires : tie.Need-joined-requires
-joined-requires c κs = search needs
-
-delta-swap-requires : tie.Need-delta-swap-requires
-delta-swap-requires c κs = search needs
-
-delta-swap-requires-2 : tie.Need-delta-swap-requires-2
-delta-swap-requires-2 c κs = search needs
-
-transpose-requires : tie.Need-transpose-requires
-transpose-requires c κs = search needs
-
-store-requires : tie.Need-store-requires
-store-requires c κs = search needs
-
 returns : tie.Need-returns
 returns c =
     let t = c .before in
@@ -44,11 +23,11 @@ pub last-spec : {M : Type 1} → statement M
 last-spec =
     tie.close
     (tie.spec
-    turn-right-1-requires
-    turn-right-1-requires-2
-    joined-requires
-    delta-swap-requires
-    delta-swap-requires-2
-    transpose-requires
-    store-requires
+    (λ c κs. search needs)
+    (λ c κs. search needs)
+    (λ c κs. search needs)
+    (λ c κs. search needs)
+    (λ c κs. search needs)
+    (λ c κs. search needs)
+    (λ c κs. search needs)
     returns)

@@ -8,14 +8,8 @@ use Rattle.cipher.proofs.DesRounds.{held-turned}
 use Rattle.cipher.proofs.des.left.Statement.{statement}
 use Rattle.cipher.proofs.des.left.Tie as tie
 
-low-requires : tie.Need-low-requires
-low-requires c κs = search needs
-
-turn-left-1-requires : tie.Need-turn-left-1-requires
-turn-left-1-requires c κs = search needs
-
 returns : tie.Need-returns
 returns c = held-turned _ _ (c .turn-left-1 .ensures) ∙ ap (bits 32) (c .before .low .ensures) ∙ bits-mod 32 32 _ (le-refl 32)
 
 pub left-spec : {M : Type 1} → statement M
-left-spec = tie.close (tie.spec low-requires turn-left-1-requires returns)
+left-spec = tie.close (tie.spec (λ c κs. search needs) (λ c κs. search needs) returns)

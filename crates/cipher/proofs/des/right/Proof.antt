@@ -6,14 +6,8 @@ use Rattle.cipher.proofs.DesRounds.{held-turned}
 use Rattle.cipher.proofs.des.right.Statement.{statement}
 use Rattle.cipher.proofs.des.right.Tie as tie
 
-high-requires : tie.Need-high-requires
-high-requires c κs = search needs
-
-turn-left-1-requires : tie.Need-turn-left-1-requires
-turn-left-1-requires c κs = search needs
-
 returns : tie.Need-returns
 returns c = held-turned _ _ (c .turn-left-1 .ensures) ∙ ap (bits 32) (c .before .high .ensures)
 
 pub right-spec : {M : Type 1} → statement M
-right-spec = tie.close (tie.spec high-requires turn-left-1-requires returns)
+right-spec = tie.close (tie.spec (λ c κs. search needs) (λ c κs. search needs) returns)

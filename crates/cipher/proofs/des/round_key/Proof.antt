@@ -6,27 +6,6 @@ use Rattle.cipher.proofs.DesKeys.{key-word}
 use Rattle.cipher.proofs.des.round_key.Tie as tie
 use Rattle.cipher.proofs.des.round_key.Statement.{statement}
 
-half-key-requires : tie.Need-half-key-requires
-half-key-requires c κs = search needs
-
-half-key-requires-2 : tie.Need-half-key-requires-2
-half-key-requires-2 c κs = search needs
-
-mul-joined : tie.Need-mul-joined
-mul-joined c = search needs
-
-add-joined : tie.Need-add-joined
-add-joined c = search needs
-
-mul-joined-2 : tie.Need-mul-joined-2
-mul-joined-2 c = search needs
-
-add-joined-2 : tie.Need-add-joined-2
-add-joined-2 c = search needs
-
-joined-requires : tie.Need-joined-requires
-joined-requires c κs = search needs
-
 returns : tie.Need-returns
 returns c =
     let a = c .before .before .before .before in
@@ -38,11 +17,11 @@ pub round-key-spec : {M : Type 1} → statement M
 round-key-spec =
     tie.close
     (tie.spec
-    half-key-requires
-    half-key-requires-2
-    mul-joined
-    add-joined
-    mul-joined-2
-    add-joined-2
-    joined-requires
+    (λ c κs. search needs)
+    (λ c κs. search needs)
+    (λ c. search needs)
+    (λ c. search needs)
+    (λ c. search needs)
+    (λ c. search needs)
+    (λ c κs. search needs)
     returns)

@@ -6,18 +6,6 @@ use Rattle.cipher.proofs.DesKeys.{once-first, once-at, twice, shift-wor
 use Rattle.cipher.proofs.des.shifted.Tie as tie
 use Rattle.cipher.proofs.des.shifted.Statement.{statement}
 
-mul-result : tie.Need-mul-result
-mul-result c = search needs
-
-add-result : tie.Need-add-result
-add-result c = search needs
-
-mul-result-2 : tie.Need-mul-result-2
-mul-result-2 c = search needs
-
-add-result-2 : tie.Need-add-result-2
-add-result-2 c = search needs
-
 returns : tie.Need-returns
 returns c =
     let a = c .before .before in
@@ -33,4 +21,4 @@ returns-2 c =
 
 pub shifted-spec : {M : Type 1} → statement M
 shifted-spec =
-    tie.close (tie.spec mul-result add-result mul-result-2 add-result-2 returns returns-2)
+    tie.close (tie.spec (λ c. search needs) (λ c. search needs) (λ c. search needs) (λ c. search needs) returns returns-2)

@@ -6,21 +6,6 @@ use borrow.Author.Needs.{needs}
 use Rattle.cipher.proofs.ofb.add_at.Statement.{statement}
 use Rattle.cipher.proofs.ofb.add_at.Tie as tie
 
-sub-xor-into : tie.Need-sub-xor-into
-sub-xor-into c = search needs
-
-part-xor-into-start : tie.Need-part-xor-into-start
-part-xor-into-start c = search needs
-
-part-xor-into-end : tie.Need-part-xor-into-end
-part-xor-into-end c = search needs
-
-xor-into-requires : tie.Need-xor-into-requires
-xor-into-requires c κs = search needs
-
-same-length : tie.Need-same-length
-same-length c = search needs
-
 returns : tie.Need-returns
 returns c =
     let a = c .before .before .before .before .before .args in
@@ -31,9 +16,9 @@ pub add-at-spec : {M : Type 1} → statement M
 add-at-spec =
     tie.close
     (tie.spec
-    sub-xor-into
-    part-xor-into-start
-    part-xor-into-end
-    xor-into-requires
-    same-length
+    (λ c. search needs)
+    (λ c. search needs)
+    (λ c. search needs)
+    (λ c κs. search needs)
+    (λ c. search needs)
     returns)

@@ -3,18 +3,9 @@ use borrow.Author.Needs.{needs}
 use Rattle.felica_secure.proofs.challenge.felica_encrypt_challenge2a.Statement.{statement}
 use Rattle.felica_secure.proofs.challenge.felica_encrypt_challenge2a.Tie as tie
 
-encrypt-challenge2a-requires : tie.Need-encrypt-challenge2a-requires
-encrypt-challenge2a-requires c κs = search needs
-
-pack-requires : tie.Need-pack-requires
-pack-requires c κs = search needs
-
-same-length : tie.Need-same-length
-same-length c = search needs
-
 returns : tie.Need-returns
 returns c = meets-returns _ _ _ _ _ (c .before .before .before .encrypt-challenge2a .ensures) (c .pack .ensures)
 
 pub felica-encrypt-challenge2a-spec : {M : Type 1} → statement M
 felica-encrypt-challenge2a-spec =
-    tie.close (tie.spec encrypt-challenge2a-requires pack-requires same-length returns)
+    tie.close (tie.spec (λ c κs. search needs) (λ c κs. search needs) (λ c. search needs) returns)

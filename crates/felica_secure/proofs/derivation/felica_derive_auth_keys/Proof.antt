@@ -3,18 +3,9 @@ use borrow.Author.Needs.{needs}
 use Rattle.felica_secure.proofs.derivation.felica_derive_auth_keys.Statement.{statement}
 use Rattle.felica_secure.proofs.derivation.felica_derive_auth_keys.Tie as tie
 
-derive-auth-keys-requires : tie.Need-derive-auth-keys-requires
-derive-auth-keys-requires c κs = search needs
-
-pack-all-requires : tie.Need-pack-all-requires
-pack-all-requires c κs = search needs
-
-same-length : tie.Need-same-length
-same-length c = search needs
-
 returns : tie.Need-returns
 returns c = derives-returns _ _ _ _ _ (c .before .before .before .derive-auth-keys .ensures) (c .pack-all .ensures)
 
 pub felica-derive-auth-keys-spec : {M : Type 1} → statement M
 felica-derive-auth-keys-spec =
-    tie.close (tie.spec derive-auth-keys-requires pack-all-requires same-length returns)
+    tie.close (tie.spec (λ c κs. search needs) (λ c κs. search needs) (λ c. search needs) returns)

@@ -3,18 +3,9 @@ use borrow.Author.Needs.{needs}
 use Rattle.felica_secure.proofs.frames.felica_build_secure_response_frame.Statement.{statement}
 use Rattle.felica_secure.proofs.frames.felica_build_secure_response_frame.Tie as tie
 
-build-secure-response-frame-requires : tie.Need-build-secure-response-frame-requires
-build-secure-response-frame-requires c κs = search needs
-
-pack-requires : tie.Need-pack-requires
-pack-requires c κs = search needs
-
-same-length : tie.Need-same-length
-same-length c = search needs
-
 returns : tie.Need-returns
 returns c = meets-returns _ _ _ _ _ (c .before .before .before .build-secure-response-frame .ensures) (c .pack .ensures)
 
 pub felica-build-secure-response-frame-spec : {M : Type 1} → statement M
 felica-build-secure-response-frame-spec =
-    tie.close (tie.spec build-secure-response-frame-requires pack-requires same-length returns)
+    tie.close (tie.spec (λ c κs. search needs) (λ c κs. search needs) (λ c. search needs) returns)

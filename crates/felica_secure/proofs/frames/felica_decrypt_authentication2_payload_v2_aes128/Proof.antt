@@ -9,16 +9,10 @@ decrypt-authentication2-payload-v2-aes128-requires :
     tie.Need-decrypt-authentication2-payload-v2-aes128-requires
 decrypt-authentication2-payload-v2-aes128-requires c κs = search needs
 
-pack-requires : tie.Need-pack-requires
-pack-requires c κs = search needs
-
-same-length : tie.Need-same-length
-same-length c = search needs
-
 returns : tie.Need-returns
 returns c = meets-returns _ _ _ _ _ (c .before .before .before .decrypt-authentication2-payload-v2-aes128 .ensures) (c .pack .ensures)
 
 pub felica-decrypt-authentication2-payload-v2-aes128-spec : {M : Type 1} → statement M
 felica-decrypt-authentication2-payload-v2-aes128-spec =
     tie.close
-    (tie.spec decrypt-authentication2-payload-v2-aes128-requires pack-requires same-length returns)
+    (tie.spec decrypt-authentication2-payload-v2-aes128-requires (λ c κs. search needs) (λ c. search needs) returns)

@@ -4,14 +4,8 @@ use borrow.Author.Needs.{needs}
 use Rattle.felica_secure.proofs.frames.felica_forecast.Statement.{statement}
 use Rattle.felica_secure.proofs.frames.felica_forecast.Tie as tie
 
-forecast-requires : tie.Need-forecast-requires
-forecast-requires c κs = search needs
-
-pack-requires : tie.Need-pack-requires
-pack-requires c κs = search needs
-
 returns : tie.Need-returns
 returns c = forecast-packed _ _ (c .before .forecast .result) _ (omega arith) (omega arith) (c .before .forecast .ensures) (c .pack .ensures)
 
 pub felica-forecast-spec : {M : Type 1} → statement M
-felica-forecast-spec = tie.close (tie.spec forecast-requires pack-requires returns)
+felica-forecast-spec = tie.close (tie.spec (λ c κs. search needs) (λ c κs. search needs) returns)

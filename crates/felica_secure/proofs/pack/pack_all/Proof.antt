@@ -4,24 +4,6 @@ use borrow.Author.Needs.{needs}
 use Rattle.felica_secure.proofs.pack.pack_all.Statement.{statement}
 use Rattle.felica_secure.proofs.pack.pack_all.Tie as tie
 
-mul-result : tie.Need-mul-result
-mul-result c = search needs
-
-add-result : tie.Need-add-result
-add-result c = search needs
-
-mul-result-2 : tie.Need-mul-result-2
-mul-result-2 c = search needs
-
-add-result-2 : tie.Need-add-result-2
-add-result-2 c = search needs
-
-mul-result-3 : tie.Need-mul-result-3
-mul-result-3 c = search needs
-
-add-result-3 : tie.Need-add-result-3
-add-result-3 c = search needs
-
 returns : tie.Need-returns
 unfolding packed
 returns c = omega arith
@@ -29,4 +11,4 @@ returns c = omega arith
 pub pack-all-spec : {M : Type 1} → statement M
 pack-all-spec =
     tie.close
-    (tie.spec mul-result add-result mul-result-2 add-result-2 mul-result-3 add-result-3 returns)
+    (tie.spec (λ c. search needs) (λ c. search needs) (λ c. search needs) (λ c. search needs) (λ c. search needs) (λ c. search needs) returns)

@@ -9,34 +9,16 @@ use borrow.Author.Needs.{needs}
 use Rattle.felica_secure.proofs.sessions.felica_session_apply_response.Statement.{statement}
 use Rattle.felica_secure.proofs.sessions.felica_session_apply_response.Tie as tie
 
-is-session-requires : tie.Need-is-session-requires
-is-session-requires c κs = search needs
-
-same-length : tie.Need-same-length
-same-length c = search needs
-
 returns : tie.Need-returns
 returns c = no-keeps keptSession _ _ _ (sym (c .before .is-session .ensures) ∙ not-true _ (c .if1 .taken)) refl _
 
 load-requires : tie.Need-load-requires
 load-requires c κs = session-size _ (sym (c .before .before .is-session .ensures) ∙ not-false _ (c .before .if1 .left))
 
-apply-response-requires : tie.Need-apply-response-requires
-apply-response-requires c κs = search needs
-
 store-requires : tie.Need-store-requires
 store-requires c κs =
     let i = c .before .before .before .before .before .before .before in
     session-size _ (sym (i .before .is-session .ensures) ∙ not-false _ (i .if1 .left))
-
-pack-requires : tie.Need-pack-requires
-pack-requires c κs = search needs
-
-same-length-2 : tie.Need-same-length-2
-same-length-2 c = search needs
-
-same-length-3 : tie.Need-same-length-3
-same-length-3 c = search needs
 
 returns-2 : tie.Need-returns-2
 unfolding callReceive answering
@@ -55,13 +37,13 @@ pub felica-session-apply-response-spec : {M : Type 1} → statement M
 felica-session-apply-response-spec =
     tie.close
     (tie.spec
-    is-session-requires
-    same-length
+    (λ c κs. search needs)
+    (λ c. search needs)
     returns
     load-requires
-    apply-response-requires
+    (λ c κs. search needs)
     store-requires
-    pack-requires
-    same-length-2
-    same-length-3
+    (λ c κs. search needs)
+    (λ c. search needs)
+    (λ c. search needs)
     returns-2)

@@ -9,23 +9,11 @@ use borrow.Author.Needs.{needs}
 use Rattle.felica_secure.proofs.sessions.felica_session_encrypt_command.Statement.{statement}
 use Rattle.felica_secure.proofs.sessions.felica_session_encrypt_command.Tie as tie
 
-is-session-requires : tie.Need-is-session-requires
-is-session-requires c κs = search needs
-
 returns : tie.Need-returns
 returns c = no-tells keptSession _ _ _ (sym (c .before .is-session .ensures) ∙ not-true _ (c .if1 .taken)) refl _
 
 load-requires : tie.Need-load-requires
 load-requires c κs = session-size _ (sym (c .before .is-session .ensures) ∙ not-false _ (c .if1 .left))
-
-encrypt-command-requires : tie.Need-encrypt-command-requires
-encrypt-command-requires c κs = search needs
-
-pack-requires : tie.Need-pack-requires
-pack-requires c κs = search needs
-
-same-length : tie.Need-same-length
-same-length c = search needs
 
 returns-2 : tie.Need-returns-2
 unfolding callSeal answering
@@ -42,10 +30,10 @@ pub felica-session-encrypt-command-spec : {M : Type 1} → statement M
 felica-session-encrypt-command-spec =
     tie.close
     (tie.spec
-    is-session-requires
+    (λ c κs. search needs)
     returns
     load-requires
-    encrypt-command-requires
-    pack-requires
-    same-length
+    (λ c κs. search needs)
+    (λ c κs. search needs)
+    (λ c. search needs)
     returns-2)

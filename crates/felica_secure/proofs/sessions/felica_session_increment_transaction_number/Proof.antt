@@ -9,31 +9,16 @@ use borrow.Author.Needs.{needs}
 use Rattle.felica_secure.proofs.sessions.felica_session_increment_transaction_number.Statement.{statement}
 use Rattle.felica_secure.proofs.sessions.felica_session_increment_transaction_number.Tie as tie
 
-is-session-requires : tie.Need-is-session-requires
-is-session-requires c κs = search needs
-
-same-length : tie.Need-same-length
-same-length c = search needs
-
 returns : tie.Need-returns
 returns c = no-keeps keptSession callStep _ _ (sym (c .before .is-session .ensures) ∙ not-true _ (c .if1 .taken)) refl []
 
 load-requires : tie.Need-load-requires
 load-requires c κs = session-size _ (sym (c .before .before .is-session .ensures) ∙ not-false _ (c .before .if1 .left))
 
-advance-requires : tie.Need-advance-requires
-advance-requires c κs = search needs
-
 store-requires : tie.Need-store-requires
 store-requires c κs =
     let i = c .before .before .before .before in
     session-size _ (sym (i .before .is-session .ensures) ∙ not-false _ (i .if1 .left))
-
-pack-requires : tie.Need-pack-requires
-pack-requires c κs = search needs
-
-same-length-2 : tie.Need-same-length-2
-same-length-2 c = search needs
 
 returns-2 : tie.Need-returns-2
 unfolding callStep over
@@ -50,12 +35,12 @@ pub felica-session-increment-transaction-number-spec : {M : Type 1} → statemen
 felica-session-increment-transaction-number-spec =
     tie.close
     (tie.spec
-    is-session-requires
-    same-length
+    (λ c κs. search needs)
+    (λ c. search needs)
     returns
     load-requires
-    advance-requires
+    (λ c κs. search needs)
     store-requires
-    pack-requires
-    same-length-2
+    (λ c κs. search needs)
+    (λ c. search needs)
     returns-2)

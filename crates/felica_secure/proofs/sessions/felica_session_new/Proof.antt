@@ -10,26 +10,11 @@ use Rattle.felica_secure.proofs.sessions.felica_session_new.Tie as tie
 returns : tie.Need-returns
 returns c = making-other-size keptSession _ _ _ _ (c .if1 .taken) refl
 
-new-requires : tie.Need-new-requires
-new-requires c κs = search needs
-
-cast-result : tie.Need-cast-result
-cast-result c = search needs
-
 returns-2 : tie.Need-returns-2
 returns-2 c =
     let i = c .before in
     let n = i .before .before in
     making-refused keptSession _ _ _ _ (n .before .if1 .left) _ (n .new .ensures .number-is) (i .if2 .taken) refl
-
-store-requires : tie.Need-store-requires
-store-requires c κs = search needs
-
-pack-all-requires : tie.Need-pack-all-requires
-pack-all-requires c κs = search needs
-
-same-length : tie.Need-same-length
-same-length c = search needs
 
 returns-3 : tie.Need-returns-3
 returns-3 c =
@@ -44,10 +29,10 @@ felica-session-new-spec =
     tie.close
     (tie.spec
     returns
-    new-requires
-    cast-result
+    (λ c κs. search needs)
+    (λ c. search needs)
     returns-2
-    store-requires
-    pack-all-requires
-    same-length
+    (λ c κs. search needs)
+    (λ c κs. search needs)
+    (λ c. search needs)
     returns-3)

@@ -11,28 +11,16 @@ use borrow.Author.Needs.{needs}
 use Rattle.felica_secure.proofs.sessions.felica_session_set_transaction_number.Statement.{statement}
 use Rattle.felica_secure.proofs.sessions.felica_session_set_transaction_number.Tie as tie
 
-is-session-requires : tie.Need-is-session-requires
-is-session-requires c κs = search needs
-
-same-length : tie.Need-same-length
-same-length c = search needs
-
 returns : tie.Need-returns
 returns c = no-keeps keptSession (callSet (c .before .before .before .before .args .number)) _ _ (sym (c .before .is-session .ensures) ∙ not-true _ (c .if1 .taken)) refl []
 
 load-requires : tie.Need-load-requires
 load-requires c κs = session-size _ (sym (c .before .before .is-session .ensures) ∙ not-false _ (c .before .if1 .left))
 
-with-transaction-number-requires : tie.Need-with-transaction-number-requires
-with-transaction-number-requires c κs = search needs
-
 store-requires : tie.Need-store-requires
 store-requires c κs =
     let i = c .before .before .before .before in
     session-size _ (sym (i .before .is-session .ensures) ∙ not-false _ (i .if1 .left))
-
-same-length-2 : tie.Need-same-length-2
-same-length-2 c = search needs
 
 returns-2 : tie.Need-returns-2
 unfolding callSet telling over packed
@@ -49,11 +37,11 @@ pub felica-session-set-transaction-number-spec : {M : Type 1} → statement M
 felica-session-set-transaction-number-spec =
     tie.close
     (tie.spec
-    is-session-requires
-    same-length
+    (λ c κs. search needs)
+    (λ c. search needs)
     returns
     load-requires
-    with-transaction-number-requires
+    (λ c κs. search needs)
     store-requires
-    same-length-2
+    (λ c. search needs)
     returns-2)

@@ -10,29 +10,11 @@ use borrow.Author.Needs.{needs}
 use Rattle.felica_secure.proofs.sessions.felica_session_transaction_id.Statement.{statement}
 use Rattle.felica_secure.proofs.sessions.felica_session_transaction_id.Tie as tie
 
-is-session-requires : tie.Need-is-session-requires
-is-session-requires c κs = search needs
-
 returns : tie.Need-returns
 returns c = no-tells keptSession _ _ _ (sym (c .before .is-session .ensures) ∙ not-true _ (c .if1 .taken)) refl _
 
 load-requires : tie.Need-load-requires
 load-requires c κs = session-size _ (sym (c .before .is-session .ensures) ∙ not-false _ (c .if1 .left))
-
-transaction-id-requires : tie.Need-transaction-id-requires
-transaction-id-requires c κs = search needs
-
-slice-aggregate-deliver : tie.Need-slice-aggregate-deliver
-slice-aggregate-deliver c = search needs
-
-deliver-requires : tie.Need-deliver-requires
-deliver-requires c κs = search needs
-
-pack-requires : tie.Need-pack-requires
-pack-requires c κs = search needs
-
-same-length : tie.Need-same-length
-same-length c = search needs
 
 returns-2 : tie.Need-returns-2
 unfolding callId answering
@@ -50,12 +32,12 @@ pub felica-session-transaction-id-spec : {M : Type 1} → statement M
 felica-session-transaction-id-spec =
     tie.close
     (tie.spec
-    is-session-requires
+    (λ c κs. search needs)
     returns
     load-requires
-    transaction-id-requires
-    slice-aggregate-deliver
-    deliver-requires
-    pack-requires
-    same-length
+    (λ c κs. search needs)
+    (λ c. search needs)
+    (λ c κs. search needs)
+    (λ c κs. search needs)
+    (λ c. search needs)
     returns-2)

@@ -10,20 +10,11 @@ use borrow.Author.Needs.{needs}
 use Rattle.felica_secure.proofs.sessions.felica_session_turned_away.Statement.{statement}
 use Rattle.felica_secure.proofs.sessions.felica_session_turned_away.Tie as tie
 
-is-session-requires : tie.Need-is-session-requires
-is-session-requires c κs = search needs
-
 returns : tie.Need-returns
 returns c = no-tells keptSession callCount _ _ (sym (c .before .is-session .ensures) ∙ not-true _ (c .if1 .taken)) refl []
 
 load-requires : tie.Need-load-requires
 load-requires c κs = session-size _ (sym (c .before .is-session .ensures) ∙ not-false _ (c .if1 .left))
-
-turned-away-requires : tie.Need-turned-away-requires
-turned-away-requires c κs = search needs
-
-pack-all-requires : tie.Need-pack-all-requires
-pack-all-requires c κs = search needs
 
 returns-2 : tie.Need-returns-2
 unfolding callCount telling over
@@ -37,9 +28,9 @@ pub felica-session-turned-away-spec : {M : Type 1} → statement M
 felica-session-turned-away-spec =
     tie.close
     (tie.spec
-    is-session-requires
+    (λ c κs. search needs)
     returns
     load-requires
-    turned-away-requires
-    pack-all-requires
+    (λ c κs. search needs)
+    (λ c κs. search needs)
     returns-2)

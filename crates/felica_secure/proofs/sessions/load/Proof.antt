@@ -6,15 +6,6 @@ use borrow.Author.Needs.{needs}
 use Rattle.felica_secure.proofs.sessions.load.Statement.{statement}
 use Rattle.felica_secure.proofs.sessions.load.Tie as tie
 
-slice-aggregate-copy : tie.Need-slice-aggregate-copy
-slice-aggregate-copy c = search needs
-
-copy-requires : tie.Need-copy-requires
-copy-requires c κs = search needs
-
-decode-requires : tie.Need-decode-requires
-decode-requires c κs = search needs
-
 returns : tie.Need-returns
 returns c =
     let cp = c .before .before in
@@ -22,4 +13,4 @@ returns c =
     c .decode .ensures ∙ ap decode (copied (st .args .bytes .now) (replicate 178 0) _ (cp .copy .ensures) (sym (st .pre)))
 
 pub load-spec : {M : Type 1} → statement M
-load-spec = tie.close (tie.spec slice-aggregate-copy copy-requires decode-requires returns)
+load-spec = tie.close (tie.spec (λ c. search needs) (λ c κs. search needs) (λ c κs. search needs) returns)

@@ -6,18 +6,6 @@ use borrow.Author.Needs.{needs}
 use Rattle.felica_secure.proofs.sessions.store.Statement.{statement}
 use Rattle.felica_secure.proofs.sessions.store.Tie as tie
 
-encode-requires : tie.Need-encode-requires
-encode-requires c κs = search needs
-
-slice-aggregate-copy : tie.Need-slice-aggregate-copy
-slice-aggregate-copy c = search needs
-
-copy-requires : tie.Need-copy-requires
-copy-requires c κs = search needs
-
-same-length : tie.Need-same-length
-same-length c = search needs
-
 returns : tie.Need-returns
 returns c =
     let cp = c .before .before in
@@ -28,4 +16,4 @@ returns c =
 
 pub store-spec : {M : Type 1} → statement M
 store-spec =
-    tie.close (tie.spec encode-requires slice-aggregate-copy copy-requires same-length returns)
+    tie.close (tie.spec (λ c κs. search needs) (λ c. search needs) (λ c κs. search needs) (λ c. search needs) returns)

@@ -10,20 +10,11 @@ use borrow.Author.Needs.{needs}
 use Rattle.frame.proofs.des.accept_authentication2.Statement.{statement}
 use Rattle.frame.proofs.des.accept_authentication2.Tie as tie
 
-refused-requires : tie.Need-refused-requires
-refused-requires c κs = search needs
-
 returns : tie.Need-returns
 returns c =
     let i = c .before in
     let a = i .before .before .before .args in
     rw (no-block (a .plain .now) (length (a .out .now)) (i .if1 .taken)) (refused-meets 13 _ (a .out .now) (c .refused .ensures))
-
-check-packet-mac-des-requires : tie.Need-check-packet-mac-des-requires
-check-packet-mac-des-requires c κs = search needs
-
-refused-requires-2 : tie.Need-refused-requires-2
-refused-requires-2 c κs = search needs
 
 returns-2 : tie.Need-returns-2
 returns-2 c =
@@ -31,15 +22,6 @@ returns-2 c =
     let i = m .before in
     let a = i .before .before .before .args in
     rw (wrong-mac (a .plain .now) (length (a .out .now)) (i .if1 .left) (sym (m .check-packet-mac-des .ensures) ∙ not-true _ (c .before .if2 .taken))) (refused-meets 13 _ (a .out .now) (c .refused2 .ensures))
-
-strip-des-response-mac-requires : tie.Need-strip-des-response-mac-requires
-strip-des-response-mac-requires c κs = search needs
-
-deliver-requires : tie.Need-deliver-requires
-deliver-requires c κs = search needs
-
-same-length : tie.Need-same-length
-same-length c = search needs
 
 returns-3 : tie.Need-returns-3
 returns-3 c =
@@ -56,12 +38,12 @@ pub accept-authentication2-spec : {M : Type 1} → statement M
 accept-authentication2-spec =
     tie.close
     (tie.spec
-    refused-requires
+    (λ c κs. search needs)
     returns
-    check-packet-mac-des-requires
-    refused-requires-2
+    (λ c κs. search needs)
+    (λ c κs. search needs)
     returns-2
-    strip-des-response-mac-requires
-    deliver-requires
-    same-length
+    (λ c κs. search needs)
+    (λ c κs. search needs)
+    (λ c. search needs)
     returns-3)

@@ -7,27 +7,12 @@ use borrow.Author.Needs.{needs}
 use Rattle.frame.proofs.des.accept_des.Statement.{statement}
 use Rattle.frame.proofs.des.accept_des.Tie as tie
 
-check-packet-mac-des-requires : tie.Need-check-packet-mac-des-requires
-check-packet-mac-des-requires c κs = search needs
-
-refused-requires : tie.Need-refused-requires
-refused-requires c κs = search needs
-
 returns : tie.Need-returns
 returns c =
     let i = c .before in
     let m = i .before in
     let a = m .before .before .before .before .args in
     rw (wrong-mac (a .code) (length (a .out .now)) (a .id .now) (a .plain .now) (sym (m .check-packet-mac-des .ensures) ∙ not-true _ (i .if1 .taken))) (refused-meets 13 _ (a .out .now) (c .refused .ensures))
-
-six-requires : tie.Need-six-requires
-six-requires c κs = search needs
-
-parse-and-deliver-requires : tie.Need-parse-and-deliver-requires
-parse-and-deliver-requires c κs = search needs
-
-same-length : tie.Need-same-length
-same-length c = search needs
 
 returns-2 : tie.Need-returns-2
 returns-2 c =
@@ -39,4 +24,4 @@ returns-2 c =
     rw (right-mac (a .code) (length (a .out .now)) (a .id .now) (a .plain .now) (sym (m .check-packet-mac-des .ensures) ∙ not-false _ (i .if1 .left))) (rw (s .six .ensures .1 (search needs)) at (d .parse-and-deliver .ensures))
 
 pub accept-des-spec : {M : Type 1} → statement M
-accept-des-spec = tie.close (tie.spec check-packet-mac-des-requires refused-requires returns six-requires parse-and-deliver-requires same-length returns-2)
+accept-des-spec = tie.close (tie.spec (λ c κs. search needs) (λ c κs. search needs) returns (λ c κs. search needs) (λ c κs. search needs) (λ c. search needs) returns-2)

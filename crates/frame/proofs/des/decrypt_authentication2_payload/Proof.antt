@@ -13,12 +13,6 @@ use borrow.Author.Needs.{needs}
 use Rattle.frame.proofs.des.decrypt_authentication2_payload.Statement.{statement}
 use Rattle.frame.proofs.des.decrypt_authentication2_payload.Tie as tie
 
-guard-authentication2-open-requires : tie.Need-guard-authentication2-open-requires
-guard-authentication2-open-requires c κs = search needs
-
-refused-requires : tie.Need-refused-requires
-refused-requires c κs = search needs
-
 returns : tie.Need-returns
 unfolding auth2Opening
 returns c =
@@ -26,12 +20,6 @@ returns c =
     let g = i .before in
     let a = g .before .before .before .before .args in
     guard-meets (auth2OpenRows (length (a .key .now)) (length (a .«data» .now))) _ _ _ (a .out .now) (g .guard-authentication2-open .ensures) (i .if1 .taken) (c .refused .ensures)
-
-eight-requires : tie.Need-eight-requires
-eight-requires c κs = search needs
-
-slice-aggregate-decrypt-over : tie.Need-slice-aggregate-decrypt-over
-slice-aggregate-decrypt-over c = search needs
 
 decrypt-over-requires : tie.Need-decrypt-over-requires
 decrypt-over-requires c κs =
@@ -55,9 +43,6 @@ accept-authentication2-requires c κs =
     let h = auth2-open-passes _ _ _ (i .before .guard-authentication2-open .ensures) (i .if1 .left) .short in
     rw (← slice-aggregate-accept-authentication2 (c .before)) (omega arith)
 
-same-length : tie.Need-same-length
-same-length c = search needs
-
 returns-2 : tie.Need-returns-2
 unfolding auth2Opening
 returns-2 c =
@@ -78,14 +63,14 @@ pub decrypt-authentication2-payload-spec : {M : Type 1} → statement M
 decrypt-authentication2-payload-spec =
     tie.close
     (tie.spec
-    guard-authentication2-open-requires
-    refused-requires
+    (λ c κs. search needs)
+    (λ c κs. search needs)
     returns
-    eight-requires
-    slice-aggregate-decrypt-over
+    (λ c κs. search needs)
+    (λ c. search needs)
     decrypt-over-requires
     array-share-prefix-work
     slice-aggregate-accept-authentication2
     accept-authentication2-requires
-    same-length
+    (λ c. search needs)
     returns-2)

@@ -9,20 +9,11 @@ use borrow.Author.Needs.{needs}
 use Rattle.frame.proofs.des.decrypt_over.Statement.{statement}
 use Rattle.frame.proofs.des.decrypt_over.Tie as tie
 
-copy-requires : tie.Need-copy-requires
-copy-requires c κs = search needs
-
 slice-relend-prefix-decrypt-des-cbc-zero-iv : tie.Need-slice-relend-prefix-decrypt-des-cbc-zero-iv
 slice-relend-prefix-decrypt-des-cbc-zero-iv c = search needs
 
 slice-aggregate-decrypt-des-cbc-zero-iv : tie.Need-slice-aggregate-decrypt-des-cbc-zero-iv
 slice-aggregate-decrypt-des-cbc-zero-iv c = sym (length-take-le _ _ (slice-relend-prefix-decrypt-des-cbc-zero-iv (c .before)))
-
-decrypt-des-cbc-zero-iv-requires : tie.Need-decrypt-des-cbc-zero-iv-requires
-decrypt-des-cbc-zero-iv-requires c κs = search needs
-
-same-length : tie.Need-same-length
-same-length c = search needs
 
 returns : tie.Need-returns
 unfolding desPlain
@@ -38,9 +29,9 @@ pub decrypt-over-spec : {M : Type 1} → statement M
 decrypt-over-spec =
     tie.close
     (tie.spec
-    copy-requires
+    (λ c κs. search needs)
     slice-relend-prefix-decrypt-des-cbc-zero-iv
     slice-aggregate-decrypt-des-cbc-zero-iv
-    decrypt-des-cbc-zero-iv-requires
-    same-length
+    (λ c κs. search needs)
+    (λ c. search needs)
     returns)

@@ -12,12 +12,6 @@ use borrow.Author.Needs.{needs}
 use Rattle.frame.proofs.des.decrypt_secure_response_des.Statement.{statement}
 use Rattle.frame.proofs.des.decrypt_secure_response_des.Tie as tie
 
-guard-open-des-requires : tie.Need-guard-open-des-requires
-guard-open-des-requires c κs = search needs
-
-refused-requires : tie.Need-refused-requires
-refused-requires c κs = search needs
-
 returns : tie.Need-returns
 returns c =
     let i = c .before in
@@ -25,12 +19,6 @@ returns c =
     let a = g .before .before .before .before .before .args in
     rw (open-steps (a .key .now) (a .id .now) (a .«data» .now) (a .code) (length (a .out .now)))
     (guard-meets (openRows (length (a .id .now)) (length (a .key .now)) (length (a .«data» .now))) _ _ _ (a .out .now) (g .guard-open-des .ensures) (i .if1 .taken) (c .refused .ensures))
-
-eight-requires : tie.Need-eight-requires
-eight-requires c κs = search needs
-
-slice-aggregate-decrypt-over : tie.Need-slice-aggregate-decrypt-over
-slice-aggregate-decrypt-over c = search needs
 
 decrypt-over-requires : tie.Need-decrypt-over-requires
 decrypt-over-requires c κs =
@@ -55,9 +43,6 @@ accept-des-requires c κs =
     let h = p .short in
     (p .six, rw (← slice-aggregate-accept-des (c .before)) (p .enough, omega arith))
 
-same-length : tie.Need-same-length
-same-length c = search needs
-
 returns-2 : tie.Need-returns-2
 returns-2 c =
     let ac = c .before .before in
@@ -78,14 +63,14 @@ pub decrypt-secure-response-des-spec : {M : Type 1} → statement M
 decrypt-secure-response-des-spec =
     tie.close
     (tie.spec
-    guard-open-des-requires
-    refused-requires
+    (λ c κs. search needs)
+    (λ c κs. search needs)
     returns
-    eight-requires
-    slice-aggregate-decrypt-over
+    (λ c κs. search needs)
+    (λ c. search needs)
     decrypt-over-requires
     array-share-prefix-work
     slice-aggregate-accept-des
     accept-des-requires
-    same-length
+    (λ c. search needs)
     returns-2)

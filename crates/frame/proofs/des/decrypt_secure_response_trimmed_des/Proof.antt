@@ -16,15 +16,6 @@ use borrow.Author.Needs.{needs}
 use Rattle.frame.proofs.des.decrypt_secure_response_trimmed_des.Statement.{statement}
 use Rattle.frame.proofs.des.decrypt_secure_response_trimmed_des.Tie as tie
 
-slice-aggregate-decrypt-secure-response-des : tie.Need-slice-aggregate-decrypt-secure-response-des
-slice-aggregate-decrypt-secure-response-des c = search needs
-
-decrypt-secure-response-des-requires : tie.Need-decrypt-secure-response-des-requires
-decrypt-secure-response-des-requires c κs = search needs
-
-refused-requires : tie.Need-refused-requires
-refused-requires c κs = search needs
-
 returns : tie.Need-returns
 returns c =
     let i = c .before in
@@ -33,9 +24,6 @@ returns c =
     let a = k .before .before .before .args in
     let b : Bytes (a .«data» .now) = λ j. omega (arith, k .shared-slice-known3 .given j) in
     rw (trimmed-refuses (a .key .now) (a .id .now) (a .«data» .now) (a .code) b _ (op .decrypt-secure-response-des .ensures .number) (length (a .out .now)) (i .if1 .taken)) (refused-meets _ _ (a .out .now) (c .refused .ensures))
-
-cast-n : tie.Need-cast-n
-cast-n c = search needs
 
 array-share-prefix-work : tie.Need-array-share-prefix-work
 unfolding accepted
@@ -51,15 +39,6 @@ array-share-prefix-work c =
 
 slice-aggregate-trim-payload : tie.Need-slice-aggregate-trim-payload
 slice-aggregate-trim-payload c = sym (length-take-le _ _ (array-share-prefix-work (c .before)))
-
-trim-payload-requires : tie.Need-trim-payload-requires
-trim-payload-requires c κs = search needs
-
-deliver-requires : tie.Need-deliver-requires
-deliver-requires c κs = search needs
-
-same-length : tie.Need-same-length
-same-length c = search needs
 
 returns-2 : tie.Need-returns-2
 unfolding accepted
@@ -85,14 +64,14 @@ pub decrypt-secure-response-trimmed-des-spec : {M : Type 1} → statement M
 decrypt-secure-response-trimmed-des-spec =
     tie.close
     (tie.spec
-    slice-aggregate-decrypt-secure-response-des
-    decrypt-secure-response-des-requires
-    refused-requires
+    (λ c. search needs)
+    (λ c κs. search needs)
+    (λ c κs. search needs)
     returns
-    cast-n
+    (λ c. search needs)
     array-share-prefix-work
     slice-aggregate-trim-payload
-    trim-payload-requires
-    deliver-requires
-    same-length
+    (λ c κs. search needs)
+    (λ c κs. search needs)
+    (λ c. search needs)
     returns-2)

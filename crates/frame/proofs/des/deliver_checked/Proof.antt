@@ -9,24 +9,12 @@ use borrow.Author.Needs.{needs}
 use Rattle.frame.proofs.des.deliver_checked.Statement.{statement}
 use Rattle.frame.proofs.des.deliver_checked.Tie as tie
 
-same-id-requires : tie.Need-same-id-requires
-same-id-requires c κs = search needs
-
-refused-requires : tie.Need-refused-requires
-refused-requires c κs = search needs
-
 returns : tie.Need-returns
 returns c =
     let i = c .before in
     let q = i .before in
     let a = q .before .before .before .args in
     rw (wrong-id (a .transaction-number) (length (a .out .now)) (a .transaction-id) (a .payload .now) (a .id) (sym (same-is _ _ _ (q .same-id .ensures)) ∙ not-true _ (i .if1 .taken))) (refused-meets 14 _ (a .out .now) (c .refused .ensures))
-
-deliver-requires : tie.Need-deliver-requires
-deliver-requires c κs = search needs
-
-same-length : tie.Need-same-length
-same-length c = search needs
 
 returns-2 : tie.Need-returns-2
 returns-2 c =
@@ -41,9 +29,9 @@ pub deliver-checked-spec : {M : Type 1} → statement M
 deliver-checked-spec =
     tie.close
     (tie.spec
-    same-id-requires
-    refused-requires
+    (λ c κs. search needs)
+    (λ c κs. search needs)
     returns
-    deliver-requires
-    same-length
+    (λ c κs. search needs)
+    (λ c. search needs)
     returns-2)

@@ -4,12 +4,9 @@ use borrow.Author.Needs.{needs}
 use Rattle.frame.proofs.des.mac_start.Statement.{statement}
 use Rattle.frame.proofs.des.mac_start.Tie as tie
 
-cast-t4 : tie.Need-cast-t4
-cast-t4 c = search needs
-
 returns : tie.Need-returns
 unfolding macStart
 returns c = refl
 
 pub mac-start-spec : {M : Type 1} → statement M
-mac-start-spec = tie.close (tie.spec cast-t4 returns)
+mac-start-spec = tie.close (tie.spec (λ c. search needs) returns)

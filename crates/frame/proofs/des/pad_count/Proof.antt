@@ -4,12 +4,9 @@ use borrow.Author.Needs.{needs}
 use Rattle.frame.proofs.des.pad_count.Statement.{statement}
 use Rattle.frame.proofs.des.pad_count.Tie as tie
 
-sub-result : tie.Need-sub-result
-sub-result c = search needs
-
 returns : tie.Need-returns
 unfolding padCount
 returns c = refl
 
 pub pad-count-spec : {M : Type 1} → statement M
-pad-count-spec = tie.close (tie.spec sub-result returns)
+pad-count-spec = tie.close (tie.spec (λ c. search needs) returns)

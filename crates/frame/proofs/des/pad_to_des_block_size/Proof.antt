@@ -4,29 +4,8 @@ use borrow.Author.Needs.{needs}
 use Rattle.frame.proofs.des.pad_to_des_block_size.Statement.{statement}
 use Rattle.frame.proofs.des.pad_to_des_block_size.Tie as tie
 
-pad-count-requires : tie.Need-pad-count-requires
-pad-count-requires c κs = search needs
-
-add-end : tie.Need-add-end
-add-end c = search needs
-
-sub-fill : tie.Need-sub-fill
-sub-fill c = search needs
-
-part-fill-start : tie.Need-part-fill-start
-part-fill-start c = search needs
-
-part-fill-end : tie.Need-part-fill-end
-part-fill-end c = search needs
-
 cast-fill : tie.Need-cast-fill
 cast-fill c = omega (arith, pad-low (c .before .before .before .args .len))
-
-fill-requires : tie.Need-fill-requires
-fill-requires c κs = search needs
-
-same-length : tie.Need-same-length
-same-length c = search needs
 
 returns : tie.Need-returns
 returns c =
@@ -39,12 +18,12 @@ pub pad-to-des-block-size-spec : {M : Type 1} → statement M
 pad-to-des-block-size-spec =
     tie.close
     (tie.spec
-    pad-count-requires
-    add-end
-    sub-fill
-    part-fill-start
-    part-fill-end
+    (λ c κs. search needs)
+    (λ c. search needs)
+    (λ c. search needs)
+    (λ c. search needs)
+    (λ c. search needs)
     cast-fill
-    fill-requires
-    same-length
+    (λ c κs. search needs)
+    (λ c. search needs)
     returns)

@@ -8,21 +8,6 @@ use borrow.Author.Needs.{needs}
 use Rattle.frame.proofs.des.parse_header.Statement.{statement}
 use Rattle.frame.proofs.des.parse_header.Tie as tie
 
-transaction-number-requires : tie.Need-transaction-number-requires
-transaction-number-requires c κs = search needs
-
-sub-six : tie.Need-sub-six
-sub-six c = search needs
-
-part-six-start : tie.Need-part-six-start
-part-six-start c = search needs
-
-part-six-end : tie.Need-part-six-end
-part-six-end c = search needs
-
-six-requires : tie.Need-six-requires
-six-requires c κs = search needs
-
 returns : tie.Need-returns
 unfolding headerOf idOf
 returns c =
@@ -32,4 +17,4 @@ returns c =
 pub parse-header-spec : {M : Type 1} → statement M
 parse-header-spec =
     tie.close
-    (tie.spec transaction-number-requires sub-six part-six-start part-six-end six-requires returns)
+    (tie.spec (λ c κs. search needs) (λ c. search needs) (λ c. search needs) (λ c. search needs) (λ c κs. search needs) returns)

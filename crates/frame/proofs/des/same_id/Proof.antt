@@ -9,48 +9,6 @@ use Rattle.frame.proofs.des.same_id.Reads as reads
 use Rattle.frame.proofs.des.same_id.Lts as lts
 use Rattle.frame.proofs.des.six_bytes.Reads as six-bytes-reads
 
-array-read-six-bytes : tie.Need-array-read-six-bytes
-array-read-six-bytes c = search needs
-
-array-read-six-bytes-2 : tie.Need-array-read-six-bytes-2
-array-read-six-bytes-2 c = search needs
-
-array-read-six-bytes-3 : tie.Need-array-read-six-bytes-3
-array-read-six-bytes-3 c = search needs
-
-array-read-six-bytes-4 : tie.Need-array-read-six-bytes-4
-array-read-six-bytes-4 c = search needs
-
-array-read-six-bytes-5 : tie.Need-array-read-six-bytes-5
-array-read-six-bytes-5 c = search needs
-
-array-read-six-bytes-6 : tie.Need-array-read-six-bytes-6
-array-read-six-bytes-6 c = search needs
-
-six-bytes-requires : tie.Need-six-bytes-requires
-six-bytes-requires c κs = search needs
-
-array-read-six-bytes-7 : tie.Need-array-read-six-bytes-7
-array-read-six-bytes-7 c = search needs
-
-array-read-six-bytes-8 : tie.Need-array-read-six-bytes-8
-array-read-six-bytes-8 c = search needs
-
-array-read-six-bytes-9 : tie.Need-array-read-six-bytes-9
-array-read-six-bytes-9 c = search needs
-
-array-read-six-bytes-10 : tie.Need-array-read-six-bytes-10
-array-read-six-bytes-10 c = search needs
-
-array-read-six-bytes-11 : tie.Need-array-read-six-bytes-11
-array-read-six-bytes-11 c = search needs
-
-array-read-six-bytes-12 : tie.Need-array-read-six-bytes-12
-array-read-six-bytes-12 c = search needs
-
-six-bytes-requires-2 : tie.Need-six-bytes-requires-2
-six-bytes-requires-2 c κs = search needs
-
 returns : tie.Need-returns
 returns c =
     let n = c .before in
@@ -70,19 +28,19 @@ pub same-id-spec : {M : Type 1} → statement M
 same-id-spec =
     tie.close
     (tie.spec
-    array-read-six-bytes
-    array-read-six-bytes-2
-    array-read-six-bytes-3
-    array-read-six-bytes-4
-    array-read-six-bytes-5
-    array-read-six-bytes-6
-    six-bytes-requires
-    array-read-six-bytes-7
-    array-read-six-bytes-8
-    array-read-six-bytes-9
-    array-read-six-bytes-10
-    array-read-six-bytes-11
-    array-read-six-bytes-12
-    six-bytes-requires-2
+    (λ c. search needs)
+    (λ c. search needs)
+    (λ c. search needs)
+    (λ c. search needs)
+    (λ c. search needs)
+    (λ c. search needs)
+    (λ c κs. search needs)
+    (λ c. search needs)
+    (λ c. search needs)
+    (λ c. search needs)
+    (λ c. search needs)
+    (λ c. search needs)
+    (λ c. search needs)
+    (λ c κs. search needs)
     returns
     returns-2)

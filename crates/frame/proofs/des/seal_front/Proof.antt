@@ -11,9 +11,6 @@ use borrow.Author.Needs.{needs}
 use Rattle.frame.proofs.des.seal_front.Statement.{statement}
 use Rattle.frame.proofs.des.seal_front.Tie as tie
 
-pad-to-des-block-size-requires : tie.Need-pad-to-des-block-size-requires
-pad-to-des-block-size-requires c κs = search needs
-
 slice-reshare-prefix-calculate-command-mac-des :
     tie.Need-slice-reshare-prefix-calculate-command-mac-des
 slice-reshare-prefix-calculate-command-mac-des c = search needs
@@ -21,38 +18,11 @@ slice-reshare-prefix-calculate-command-mac-des c = search needs
 slice-aggregate-calculate-command-mac-des : tie.Need-slice-aggregate-calculate-command-mac-des
 slice-aggregate-calculate-command-mac-des c = sym (length-take-le _ _ (slice-reshare-prefix-calculate-command-mac-des (c .before)))
 
-calculate-command-mac-des-requires : tie.Need-calculate-command-mac-des-requires
-calculate-command-mac-des-requires c κs = search needs
-
-add-sealed : tie.Need-add-sealed
-add-sealed c = search needs
-
-slice-aggregate-copy : tie.Need-slice-aggregate-copy
-slice-aggregate-copy c = search needs
-
-sub-copy : tie.Need-sub-copy
-sub-copy c = search needs
-
-part-copy-start : tie.Need-part-copy-start
-part-copy-start c = search needs
-
-part-copy-end : tie.Need-part-copy-end
-part-copy-end c = search needs
-
-copy-requires : tie.Need-copy-requires
-copy-requires c κs = search needs
-
 slice-relend-prefix-encrypt-des-cbc-zero-iv : tie.Need-slice-relend-prefix-encrypt-des-cbc-zero-iv
 slice-relend-prefix-encrypt-des-cbc-zero-iv c = search needs
 
 slice-aggregate-encrypt-des-cbc-zero-iv : tie.Need-slice-aggregate-encrypt-des-cbc-zero-iv
 slice-aggregate-encrypt-des-cbc-zero-iv c = sym (length-take-le _ _ (slice-relend-prefix-encrypt-des-cbc-zero-iv (c .before)))
-
-encrypt-des-cbc-zero-iv-requires : tie.Need-encrypt-des-cbc-zero-iv-requires
-encrypt-des-cbc-zero-iv-requires c κs = search needs
-
-same-length : tie.Need-same-length
-same-length c = search needs
 
 returns : tie.Need-returns
 returns c =
@@ -80,18 +50,18 @@ pub seal-front-spec : {M : Type 1} → statement M
 seal-front-spec =
     tie.close
     (tie.spec
-    pad-to-des-block-size-requires
+    (λ c κs. search needs)
     slice-reshare-prefix-calculate-command-mac-des
     slice-aggregate-calculate-command-mac-des
-    calculate-command-mac-des-requires
-    add-sealed
-    slice-aggregate-copy
-    sub-copy
-    part-copy-start
-    part-copy-end
-    copy-requires
+    (λ c κs. search needs)
+    (λ c. search needs)
+    (λ c. search needs)
+    (λ c. search needs)
+    (λ c. search needs)
+    (λ c. search needs)
+    (λ c κs. search needs)
     slice-relend-prefix-encrypt-des-cbc-zero-iv
     slice-aggregate-encrypt-des-cbc-zero-iv
-    encrypt-des-cbc-zero-iv-requires
-    same-length
+    (λ c κs. search needs)
+    (λ c. search needs)
     returns)

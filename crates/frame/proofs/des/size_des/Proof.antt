@@ -8,12 +8,6 @@ use borrow.Author.Needs.{needs}
 use Rattle.frame.proofs.des.size_des.Statement.{statement}
 use Rattle.frame.proofs.des.size_des.Tie as tie
 
-add-len : tie.Need-add-len
-add-len c = search needs
-
-pad-count-requires : tie.Need-pad-count-requires
-pad-count-requires c κs = search needs
-
 add-result : tie.Need-add-result
 add-result c = omega (arith, pad-low (c .before .args .n + 8))
 
@@ -25,4 +19,4 @@ unfolding desSize
 returns c = ap (λ (k : ℕ). c .before .args .n + 8 + k + 8) (c .pad-count .ensures)
 
 pub size-des-spec : {M : Type 1} → statement M
-size-des-spec = tie.close (tie.spec add-len pad-count-requires add-result add-result-2 returns)
+size-des-spec = tie.close (tie.spec (λ c. search needs) (λ c κs. search needs) add-result add-result-2 returns)

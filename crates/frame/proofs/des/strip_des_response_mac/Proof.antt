@@ -7,17 +7,11 @@ use borrow.Author.Needs.{needs}
 use Rattle.frame.proofs.des.strip_des_response_mac.Statement.{statement}
 use Rattle.frame.proofs.des.strip_des_response_mac.Tie as tie
 
-sub-end : tie.Need-sub-end
-sub-end c = search needs
-
 slice-aggregate-result : tie.Need-slice-aggregate-result
 slice-aggregate-result c =
     let p = c .before .args .payload-with-mac .now in
     let h : length p - 8 ≤ length p = omega arith in
     sym (length-take-le (length p - 8) p h)
 
-returns : tie.Need-returns
-returns c = search needs
-
 pub strip-des-response-mac-spec : {M : Type 1} → statement M
-strip-des-response-mac-spec = tie.close (tie.spec sub-end slice-aggregate-result returns)
+strip-des-response-mac-spec = tie.close (tie.spec (λ c. search needs) slice-aggregate-result (λ c. search needs))

@@ -9,20 +9,8 @@ use borrow.Author.Needs.{needs}
 use Rattle.frame.proofs.des.trim_payload.Statement.{statement}
 use Rattle.frame.proofs.des.trim_payload.Tie as tie
 
-slice-aggregate-result : tie.Need-slice-aggregate-result
-slice-aggregate-result c = search needs
-
 returns : tie.Need-returns
 returns c = trim-short (c .before .before .before .args .payload .now) (omega arith)
-
-shared-slice-read-trim-count : tie.Need-shared-slice-read-trim-count
-shared-slice-read-trim-count c = search needs
-
-trim-count-requires : tie.Need-trim-count-requires
-trim-count-requires c κs = search needs
-
-slice-aggregate-result-2 : tie.Need-slice-aggregate-result-2
-slice-aggregate-result-2 c = search needs
 
 returns-2 : tie.Need-returns-2
 returns-2 c =
@@ -49,11 +37,11 @@ pub trim-payload-spec : {M : Type 1} → statement M
 trim-payload-spec =
     tie.close
     (tie.spec
-    slice-aggregate-result
+    (λ c. search needs)
     returns
-    shared-slice-read-trim-count
-    trim-count-requires
-    slice-aggregate-result-2
+    (λ c. search needs)
+    (λ c κs. search needs)
+    (λ c. search needs)
     returns-2
     slice-aggregate-result-3
     returns-3)

@@ -22,21 +22,9 @@ part-copy-start : tie.Need-part-copy-start
 unfolding desSize
 part-copy-start c = search needs
 
-part-copy-end : tie.Need-part-copy-end
-part-copy-end c = search needs
-
-copy-requires : tie.Need-copy-requires
-copy-requires c κs = search needs
-
-add-seal-front : tie.Need-add-seal-front
-add-seal-front c = search needs
-
 seal-front-requires : tie.Need-seal-front-requires
 unfolding desSize
 seal-front-requires c κs = search needs
-
-same-length : tie.Need-same-length
-same-length c = search needs
 
 returns : tie.Need-returns
 unfolding desSize
@@ -61,9 +49,9 @@ write-des-spec =
     write-header-requires
     sub-copy
     part-copy-start
-    part-copy-end
-    copy-requires
-    add-seal-front
+    (λ c. search needs)
+    (λ c κs. search needs)
+    (λ c. search needs)
     seal-front-requires
-    same-length
+    (λ c. search needs)
     returns)

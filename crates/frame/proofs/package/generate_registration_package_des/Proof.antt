@@ -11,12 +11,6 @@ use borrow.Author.Needs.{needs}
 use Rattle.frame.proofs.package.generate_registration_package_des.Statement.{statement}
 use Rattle.frame.proofs.package.generate_registration_package_des.Tie as tie
 
-guard-package-requires : tie.Need-guard-package-requires
-guard-package-requires c κs = search needs
-
-refused-requires : tie.Need-refused-requires
-refused-requires c κs = search needs
-
 returns : tie.Need-returns
 unfolding packaging
 returns c =
@@ -24,9 +18,6 @@ returns c =
     let g = i .before in
     let a = g .before .before .before .before .args in
     guard-meets (packageRows (length (a .key .now)) (length (a .plain .now)) (length (a .out .now))) _ _ _ (a .out .now) (g .guard-package .ensures) (i .if1 .taken) (c .refused .ensures)
-
-eight-requires : tie.Need-eight-requires
-eight-requires c κs = search needs
 
 write-package-requires : tie.Need-write-package-requires
 write-package-requires c κs =
@@ -40,9 +31,6 @@ cast-sized c =
     let i = w .before .before .before in
     let h = package-passes _ _ _ _ (i .before .guard-package .ensures) (i .if1 .left) .short in
     omega (arith, w .write-package .ensures .0)
-
-same-length : tie.Need-same-length
-same-length c = search needs
 
 returns-2 : tie.Need-returns-2
 unfolding packaging
@@ -62,12 +50,12 @@ pub generate-registration-package-des-spec : {M : Type 1} → statement M
 generate-registration-package-des-spec =
     tie.close
     (tie.spec
-    guard-package-requires
-    refused-requires
+    (λ c κs. search needs)
+    (λ c κs. search needs)
     returns
-    eight-requires
+    (λ c κs. search needs)
     write-package-requires
     cast-sized
     (λ c κs. search needs)
-    same-length
+    (λ c. search needs)
     returns-2)

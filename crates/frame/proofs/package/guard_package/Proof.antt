@@ -23,9 +23,6 @@ returns-4 : tie.Need-returns-4
 unfolding packageRows firstOf choose isnt either
 returns-4 c = let i = c .before in rw (eq-eqb _ _ (i .before .before .if1 .left), ne-eqb _ _ (i .before .if2 .left), eq-eqb _ _ (i .if3 .left), lt-ltb _ _ (c .if4 .taken))
 
-add-if5 : tie.Need-add-if5
-add-if5 c = search needs
-
 returns-5 : tie.Need-returns-5
 unfolding packageRows firstOf choose isnt either
 returns-5 c = let i = c .before .before in rw (eq-eqb _ _ (i .before .before .if1 .left), ne-eqb _ _ (i .before .if2 .left), eq-eqb _ _ (i .if3 .left), le-ltb _ _ (c .before .if4 .left), lt-ltb _ _ (c .if5 .taken))
@@ -36,4 +33,4 @@ returns-6 c = let i = c .before .before in rw (eq-eqb _ _ (i .before .before .if
 
 pub guard-package-spec : {M : Type 1} → statement M
 guard-package-spec =
-    tie.close (tie.spec returns returns-2 returns-3 returns-4 add-if5 returns-5 returns-6)
+    tie.close (tie.spec returns returns-2 returns-3 returns-4 (λ c. search needs) returns-5 returns-6)

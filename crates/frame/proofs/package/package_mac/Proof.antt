@@ -7,38 +7,11 @@ use borrow.Author.Needs.{needs}
 use Rattle.frame.proofs.package.package_mac.Statement.{statement}
 use Rattle.frame.proofs.package.package_mac.Tie as tie
 
-copy-requires : tie.Need-copy-requires
-copy-requires c κs = search needs
-
 slice-relend-prefix-encrypt-des-cbc-zero-iv : tie.Need-slice-relend-prefix-encrypt-des-cbc-zero-iv
 slice-relend-prefix-encrypt-des-cbc-zero-iv c = search needs
 
 slice-aggregate-encrypt-des-cbc-zero-iv : tie.Need-slice-aggregate-encrypt-des-cbc-zero-iv
 slice-aggregate-encrypt-des-cbc-zero-iv c = sym (length-take-le _ _ (slice-relend-prefix-encrypt-des-cbc-zero-iv (c .before)))
-
-xor-blocks-requires : tie.Need-xor-blocks-requires
-xor-blocks-requires c κs = search needs
-
-encrypt-des-cbc-zero-iv-requires : tie.Need-encrypt-des-cbc-zero-iv-requires
-encrypt-des-cbc-zero-iv-requires c κs = search needs
-
-sub-start : tie.Need-sub-start
-sub-start c = search needs
-
-sub-eight : tie.Need-sub-eight
-sub-eight c = search needs
-
-part-eight-start : tie.Need-part-eight-start
-part-eight-start c = search needs
-
-part-eight-end : tie.Need-part-eight-end
-part-eight-end c = search needs
-
-eight-requires : tie.Need-eight-requires
-eight-requires c κs = search needs
-
-same-length : tie.Need-same-length
-same-length c = search needs
 
 returns : tie.Need-returns
 returns c =
@@ -57,15 +30,15 @@ pub package-mac-spec : {M : Type 1} → statement M
 package-mac-spec =
     tie.close
     (tie.spec
-    copy-requires
+    (λ c κs. search needs)
     slice-relend-prefix-encrypt-des-cbc-zero-iv
     slice-aggregate-encrypt-des-cbc-zero-iv
-    xor-blocks-requires
-    encrypt-des-cbc-zero-iv-requires
-    sub-start
-    sub-eight
-    part-eight-start
-    part-eight-end
-    eight-requires
-    same-length
+    (λ c κs. search needs)
+    (λ c κs. search needs)
+    (λ c. search needs)
+    (λ c. search needs)
+    (λ c. search needs)
+    (λ c. search needs)
+    (λ c κs. search needs)
+    (λ c. search needs)
     returns)

@@ -10,41 +10,11 @@ use borrow.Author.Needs.{needs}
 use Rattle.frame.proofs.package.write_package.Statement.{statement}
 use Rattle.frame.proofs.package.write_package.Tie as tie
 
-add-size : tie.Need-add-size
-add-size c = search needs
-
-package-mac-requires : tie.Need-package-mac-requires
-package-mac-requires c κs = search needs
-
-copy-requires : tie.Need-copy-requires
-copy-requires c κs = search needs
-
-slice-aggregate-copy : tie.Need-slice-aggregate-copy
-slice-aggregate-copy c = search needs
-
-sub-copy : tie.Need-sub-copy
-sub-copy c = search needs
-
-part-copy-start : tie.Need-part-copy-start
-part-copy-start c = search needs
-
-part-copy-end : tie.Need-part-copy-end
-part-copy-end c = search needs
-
-copy-requires-2 : tie.Need-copy-requires-2
-copy-requires-2 c κs = search needs
-
 slice-relend-prefix-encrypt-des-cbc-zero-iv : tie.Need-slice-relend-prefix-encrypt-des-cbc-zero-iv
 slice-relend-prefix-encrypt-des-cbc-zero-iv c = search needs
 
 slice-aggregate-encrypt-des-cbc-zero-iv : tie.Need-slice-aggregate-encrypt-des-cbc-zero-iv
 slice-aggregate-encrypt-des-cbc-zero-iv c = sym (length-take-le _ _ (slice-relend-prefix-encrypt-des-cbc-zero-iv (c .before)))
-
-encrypt-des-cbc-zero-iv-requires : tie.Need-encrypt-des-cbc-zero-iv-requires
-encrypt-des-cbc-zero-iv-requires c κs = search needs
-
-same-length : tie.Need-same-length
-same-length c = search needs
 
 returns : tie.Need-returns
 returns c =
@@ -75,16 +45,16 @@ pub write-package-spec : {M : Type 1} → statement M
 write-package-spec =
     tie.close
     (tie.spec
-    add-size
-    package-mac-requires
-    copy-requires
-    slice-aggregate-copy
-    sub-copy
-    part-copy-start
-    part-copy-end
-    copy-requires-2
+    (λ c. search needs)
+    (λ c κs. search needs)
+    (λ c κs. search needs)
+    (λ c. search needs)
+    (λ c. search needs)
+    (λ c. search needs)
+    (λ c. search needs)
+    (λ c κs. search needs)
     slice-relend-prefix-encrypt-des-cbc-zero-iv
     slice-aggregate-encrypt-des-cbc-zero-iv
-    encrypt-des-cbc-zero-iv-requires
-    same-length
+    (λ c κs. search needs)
+    (λ c. search needs)
     returns)

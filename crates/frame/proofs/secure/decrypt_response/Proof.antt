@@ -5,32 +5,17 @@ use borrow.Author.Needs.{needs}
 use Rattle.frame.proofs.secure.decrypt_response.Statement.{statement}
 use Rattle.frame.proofs.secure.decrypt_response.Tie as tie
 
-decrypt-secure-response-des-requires : tie.Need-decrypt-secure-response-des-requires
-decrypt-secure-response-des-requires c κs = search needs
-
-same-length : tie.Need-same-length
-same-length c = search needs
-
 returns : tie.Need-returns
 unfolding opening
 returns c =
     let d = c .before .before in
     rw (mark-des _ _ _ (d .before .before .if1 .taken)) (d .decrypt-secure-response-des .ensures)
 
-decrypt-secure-response-v2-aes128-requires : tie.Need-decrypt-secure-response-v2-aes128-requires
-decrypt-secure-response-v2-aes128-requires c κs = search needs
-
-same-length-2 : tie.Need-same-length-2
-same-length-2 c = search needs
-
 returns-2 : tie.Need-returns-2
 unfolding opening
 returns-2 c =
     let d = c .before .before in
     rw (mark-aes _ _ _ (d .before .before .if2 .taken)) (d .decrypt-secure-response-v2-aes128 .ensures)
-
-refused-requires : tie.Need-refused-requires
-refused-requires c κs = search needs
 
 returns-3 : tie.Need-returns-3
 unfolding opening
@@ -42,11 +27,11 @@ pub decrypt-response-spec : {M : Type 1} → statement M
 decrypt-response-spec =
     tie.close
     (tie.spec
-    decrypt-secure-response-des-requires
-    same-length
+    (λ c κs. search needs)
+    (λ c. search needs)
     returns
-    decrypt-secure-response-v2-aes128-requires
-    same-length-2
+    (λ c κs. search needs)
+    (λ c. search needs)
     returns-2
-    refused-requires
+    (λ c κs. search needs)
     returns-3)

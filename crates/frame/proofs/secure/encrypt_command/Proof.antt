@@ -5,32 +5,17 @@ use borrow.Author.Needs.{needs}
 use Rattle.frame.proofs.secure.encrypt_command.Statement.{statement}
 use Rattle.frame.proofs.secure.encrypt_command.Tie as tie
 
-encrypt-secure-request-des-requires : tie.Need-encrypt-secure-request-des-requires
-encrypt-secure-request-des-requires c κs = search needs
-
-same-length : tie.Need-same-length
-same-length c = search needs
-
 returns : tie.Need-returns
 unfolding sealing
 returns c =
     let d = c .before .before in
     rw (mark-des _ _ _ (d .before .before .if1 .taken)) (d .encrypt-secure-request-des .ensures)
 
-encrypt-secure-request-v2-aes128-requires : tie.Need-encrypt-secure-request-v2-aes128-requires
-encrypt-secure-request-v2-aes128-requires c κs = search needs
-
-same-length-2 : tie.Need-same-length-2
-same-length-2 c = search needs
-
 returns-2 : tie.Need-returns-2
 unfolding sealing
 returns-2 c =
     let d = c .before .before in
     rw (mark-aes _ _ _ (d .before .before .if2 .taken)) (d .encrypt-secure-request-v2-aes128 .ensures)
-
-refused-requires : tie.Need-refused-requires
-refused-requires c κs = search needs
 
 returns-3 : tie.Need-returns-3
 unfolding sealing
@@ -42,11 +27,11 @@ pub encrypt-command-spec : {M : Type 1} → statement M
 encrypt-command-spec =
     tie.close
     (tie.spec
-    encrypt-secure-request-des-requires
-    same-length
+    (λ c κs. search needs)
+    (λ c. search needs)
     returns
-    encrypt-secure-request-v2-aes128-requires
-    same-length-2
+    (λ c κs. search needs)
+    (λ c. search needs)
     returns-2
-    refused-requires
+    (λ c κs. search needs)
     returns-3)

@@ -7,23 +7,14 @@ use borrow.Author.Needs.{needs}
 use Rattle.frame.proofs.secure.forecast.Statement.{statement}
 use Rattle.frame.proofs.secure.forecast.Tie as tie
 
-refused-requires : tie.Need-refused-requires
-refused-requires c κs = search needs
-
 returns : tie.Need-returns
 returns c =
     let i = c .before in
     let l = longest-des _ (i .before .before .args .payload-len) (c .refused .result) (i .before .if1 .taken) in
     forecast-long _ _ _ 232 (l .0) (l .1) (i .if2 .taken) (c .refused .ensures)
 
-size-des-requires : tie.Need-size-des-requires
-size-des-requires c κs = search needs
-
 cast-sized : tie.Need-cast-sized
 cast-sized c = omega (arith, c .size-des .ensures, size-most _ (c .before .if2 .left))
-
-sized-requires : tie.Need-sized-requires
-sized-requires c κs = search needs
 
 returns-2 : tie.Need-returns-2
 returns-2 c =
@@ -33,23 +24,11 @@ returns-2 c =
     let e = c .sized .ensures in
     forecast-sized _ _ _ 232 (l .0) (l .1) (i .if2 .left) (e .0, e .1 ∙ d .size-des .ensures ∙ sym (l .2), e .2)
 
-refused-requires-2 : tie.Need-refused-requires-2
-refused-requires-2 c κs = search needs
-
 returns-3 : tie.Need-returns-3
 returns-3 c =
     let i = c .before in
     let l = longest-aes _ (i .before .before .before .args .payload-len) (c .refused2 .result) (i .before .if3 .taken) in
     forecast-long _ _ _ 243 (l .0) (l .1) (i .if4 .taken) (c .refused2 .ensures)
-
-add-sized : tie.Need-add-sized
-add-sized c = search needs
-
-cast-sized-2 : tie.Need-cast-sized-2
-cast-sized-2 c = search needs
-
-sized-requires-2 : tie.Need-sized-requires-2
-sized-requires-2 c κs = search needs
 
 returns-4 : tie.Need-returns-4
 unfolding aesSize
@@ -59,9 +38,6 @@ returns-4 c =
     let e = c .sized2 .ensures in
     forecast-sized _ _ _ 243 (l .0) (l .1) (i .if4 .left) (e .0, e .1 ∙ sym (l .2), e .2)
 
-refused-requires-3 : tie.Need-refused-requires-3
-refused-requires-3 c κs = search needs
-
 returns-5 : tie.Need-returns-5
 returns-5 c = forecast-unknown _ _ _ (c .before .before .if1 .left) (c .before .if3 .left) (c .refused3 .ensures)
 
@@ -69,17 +45,17 @@ pub forecast-spec : {M : Type 1} → statement M
 forecast-spec =
     tie.close
     (tie.spec
-    refused-requires
+    (λ c κs. search needs)
     returns
-    size-des-requires
+    (λ c κs. search needs)
     cast-sized
-    sized-requires
+    (λ c κs. search needs)
     returns-2
-    refused-requires-2
+    (λ c κs. search needs)
     returns-3
-    add-sized
-    cast-sized-2
-    sized-requires-2
+    (λ c. search needs)
+    (λ c. search needs)
+    (λ c κs. search needs)
     returns-4
-    refused-requires-3
+    (λ c κs. search needs)
     returns-5)

@@ -8,18 +8,6 @@ use borrow.Author.Needs.{needs}
 use Rattle.frame.proofs.v2_aes.challenge_3c.Statement.{statement}
 use Rattle.frame.proofs.v2_aes.challenge_3c.Tie as tie
 
-sub-four : tie.Need-sub-four
-sub-four c = search needs
-
-part-four-start : tie.Need-part-four-start
-part-four-start c = search needs
-
-part-four-end : tie.Need-part-four-end
-part-four-end c = search needs
-
-four-requires : tie.Need-four-requires
-four-requires c κs = search needs
-
 returns : tie.Need-returns
 unfolding challenge3C
 returns c =
@@ -28,4 +16,4 @@ returns c =
 
 pub challenge-3c-spec : {M : Type 1} → statement M
 challenge-3c-spec =
-    tie.close (tie.spec sub-four part-four-start part-four-end four-requires returns)
+    tie.close (tie.spec (λ c. search needs) (λ c. search needs) (λ c. search needs) (λ c κs. search needs) returns)

@@ -9,68 +9,11 @@ use borrow.Author.Needs.{needs}
 use Rattle.frame.proofs.v2_aes.decrypt_in_work_block.Statement.{statement}
 use Rattle.frame.proofs.v2_aes.decrypt_in_work_block.Tie as tie
 
-sub-n : tie.Need-sub-n
-sub-n c = search needs
-
-add-end : tie.Need-add-end
-add-end c = search needs
-
-shared-slice-read-low : tie.Need-shared-slice-read-low
-shared-slice-read-low c = search needs
-
-shared-slice-read-high : tie.Need-shared-slice-read-high
-shared-slice-read-high c = search needs
-
-transaction-number-requires : tie.Need-transaction-number-requires
-transaction-number-requires c κs = search needs
-
-challenge-3c-requires : tie.Need-challenge-3c-requires
-challenge-3c-requires c κs = search needs
-
-build-initial-vector-v2-aes128-requires : tie.Need-build-initial-vector-v2-aes128-requires
-build-initial-vector-v2-aes128-requires c κs = search needs
-
-sub-copy : tie.Need-sub-copy
-sub-copy c = search needs
-
-part-copy-start : tie.Need-part-copy-start
-part-copy-start c = search needs
-
-part-copy-end : tie.Need-part-copy-end
-part-copy-end c = search needs
-
-slice-aggregate-copy : tie.Need-slice-aggregate-copy
-slice-aggregate-copy c = search needs
-
-copy-requires : tie.Need-copy-requires
-copy-requires c κs = search needs
-
-sub-eight : tie.Need-sub-eight
-sub-eight c = search needs
-
-part-eight-start : tie.Need-part-eight-start
-part-eight-start c = search needs
-
-part-eight-end : tie.Need-part-eight-end
-part-eight-end c = search needs
-
-eight-requires : tie.Need-eight-requires
-eight-requires c κs = search needs
-
 array-borrow-prefix-work : tie.Need-array-borrow-prefix-work
 array-borrow-prefix-work c = search needs
 
 slice-aggregate-apply-aes128-ofb-parts : tie.Need-slice-aggregate-apply-aes128-ofb-parts
 slice-aggregate-apply-aes128-ofb-parts c = sym (length-take-le _ _ (array-borrow-prefix-work (c .before)))
-
-slice-aggregate-apply-aes128-ofb-parts-2 : tie.Need-slice-aggregate-apply-aes128-ofb-parts-2
-slice-aggregate-apply-aes128-ofb-parts-2 c = search needs
-
-cipher-key-requires : tie.Need-cipher-key-requires
-cipher-key-requires c κs = search needs
-
-apply-aes128-ofb-parts-requires : tie.Need-apply-aes128-ofb-parts-requires
-apply-aes128-ofb-parts-requires c κs = search needs
 
 array-share-prefix-work : tie.Need-array-share-prefix-work
 array-share-prefix-work c =
@@ -81,20 +24,11 @@ array-share-prefix-work c =
 slice-aggregate-payload : tie.Need-slice-aggregate-payload
 slice-aggregate-payload c = sym (length-take-le _ _ (array-share-prefix-work (c .before)))
 
-mac-key-requires : tie.Need-mac-key-requires
-mac-key-requires c κs = search needs
-
-calculate-mac-v2-aes128-requires : tie.Need-calculate-mac-v2-aes128-requires
-calculate-mac-v2-aes128-requires c κs = search needs
-
 accept-aes-requires : tie.Need-accept-aes-requires
 accept-aes-requires c κs =
     let o = c .before .before .before .before .before .before in
     let st = o .before .before .before .before .before .before .before .before .before .before .before .before .before .before .before .before .before .before in
     rw (← slice-aggregate-payload (c .before .before .before)) (omega (arith, st .pre .1 .1))
-
-same-length : tie.Need-same-length
-same-length c = search needs
 
 returns : tie.Need-returns
 returns c =
@@ -122,31 +56,31 @@ pub decrypt-in-work-block-spec : {M : Type 1} → statement M
 decrypt-in-work-block-spec =
     tie.close
     (tie.spec
-    sub-n
-    add-end
-    shared-slice-read-low
-    shared-slice-read-high
-    transaction-number-requires
-    challenge-3c-requires
-    build-initial-vector-v2-aes128-requires
-    sub-copy
-    part-copy-start
-    part-copy-end
-    slice-aggregate-copy
-    copy-requires
-    sub-eight
-    part-eight-start
-    part-eight-end
-    eight-requires
+    (λ c. search needs)
+    (λ c. search needs)
+    (λ c. search needs)
+    (λ c. search needs)
+    (λ c κs. search needs)
+    (λ c κs. search needs)
+    (λ c κs. search needs)
+    (λ c. search needs)
+    (λ c. search needs)
+    (λ c. search needs)
+    (λ c. search needs)
+    (λ c κs. search needs)
+    (λ c. search needs)
+    (λ c. search needs)
+    (λ c. search needs)
+    (λ c κs. search needs)
     array-borrow-prefix-work
     slice-aggregate-apply-aes128-ofb-parts
-    slice-aggregate-apply-aes128-ofb-parts-2
-    cipher-key-requires
-    apply-aes128-ofb-parts-requires
+    (λ c. search needs)
+    (λ c κs. search needs)
+    (λ c κs. search needs)
     array-share-prefix-work
     slice-aggregate-payload
-    mac-key-requires
-    calculate-mac-v2-aes128-requires
+    (λ c κs. search needs)
+    (λ c κs. search needs)
     accept-aes-requires
-    same-length
+    (λ c. search needs)
     returns)

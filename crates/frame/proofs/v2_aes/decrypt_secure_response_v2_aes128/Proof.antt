@@ -6,12 +6,6 @@ use borrow.Author.Needs.{needs}
 use Rattle.frame.proofs.v2_aes.decrypt_secure_response_v2_aes128.Statement.{statement}
 use Rattle.frame.proofs.v2_aes.decrypt_secure_response_v2_aes128.Tie as tie
 
-guard-open-aes-requires : tie.Need-guard-open-aes-requires
-guard-open-aes-requires c κs = search needs
-
-refused-requires : tie.Need-refused-requires
-refused-requires c κs = search needs
-
 returns : tie.Need-returns
 returns c =
     let i = c .before in
@@ -19,17 +13,11 @@ returns c =
     let a = g .before .before .before .before .before .args in
     meets-refused _ _ _ (a .out .now) (aes-open-refuses (a .credentials .now) (a .id .now) (a .«data» .now) (a .code) (length (a .out .now)) _ (g .guard-open-aes .ensures) (i .if1 .taken)) (c .refused .ensures)
 
-six-requires : tie.Need-six-requires
-six-requires c κs = search needs
-
 decrypt-in-work-block-requires : tie.Need-decrypt-in-work-block-requires
 decrypt-in-work-block-requires c κs =
     let i = c .before .before in
     let p = aes-open-passes _ _ _ (sym (i .if1 .left) ∙ i .before .guard-open-aes .ensures) in
     (p .all, (p .enough, p .short))
-
-same-length : tie.Need-same-length
-same-length c = search needs
 
 returns-2 : tie.Need-returns-2
 returns-2 c =
@@ -46,10 +34,10 @@ pub decrypt-secure-response-v2-aes128-spec : {M : Type 1} → statement M
 decrypt-secure-response-v2-aes128-spec =
     tie.close
     (tie.spec
-    guard-open-aes-requires
-    refused-requires
+    (λ c κs. search needs)
+    (λ c κs. search needs)
     returns
-    six-requires
+    (λ c κs. search needs)
     decrypt-in-work-block-requires
-    same-length
+    (λ c. search needs)
     returns-2)

@@ -9,54 +9,9 @@ use borrow.Author.Needs.{needs}
 use Rattle.frame.proofs.v2_aes.write_aes.Statement.{statement}
 use Rattle.frame.proofs.v2_aes.write_aes.Tie as tie
 
-add-end : tie.Need-add-end
-add-end c = search needs
-
-add-size : tie.Need-add-size
-add-size c = search needs
-
-cast-t14 : tie.Need-cast-t14
-cast-t14 c = search needs
-
-cast-t17 : tie.Need-cast-t17
-cast-t17 c = search needs
-
-challenge-3c-requires : tie.Need-challenge-3c-requires
-challenge-3c-requires c κs = search needs
-
-build-initial-vector-v2-aes128-requires : tie.Need-build-initial-vector-v2-aes128-requires
-build-initial-vector-v2-aes128-requires c κs = search needs
-
-mac-key-requires : tie.Need-mac-key-requires
-mac-key-requires c κs = search needs
-
-calculate-mac-v2-aes128-requires : tie.Need-calculate-mac-v2-aes128-requires
-calculate-mac-v2-aes128-requires c κs = search needs
-
-slice-aggregate-copy : tie.Need-slice-aggregate-copy
-slice-aggregate-copy c = search needs
-
-copy-requires : tie.Need-copy-requires
-copy-requires c κs = search needs
-
-sub-copy : tie.Need-sub-copy
-sub-copy c = search needs
-
-part-copy-start : tie.Need-part-copy-start
-part-copy-start c = search needs
-
 part-copy-end : tie.Need-part-copy-end
 unfolding aesSize
 part-copy-end c = omega arith
-
-copy-requires-2 : tie.Need-copy-requires-2
-copy-requires-2 c κs = search needs
-
-sub-apply-aes128-ofb-parts : tie.Need-sub-apply-aes128-ofb-parts
-sub-apply-aes128-ofb-parts c = search needs
-
-part-apply-aes128-ofb-parts-start : tie.Need-part-apply-aes128-ofb-parts-start
-part-apply-aes128-ofb-parts-start c = search needs
 
 part-apply-aes128-ofb-parts-end : tie.Need-part-apply-aes128-ofb-parts-end
 unfolding aesSize
@@ -65,24 +20,6 @@ part-apply-aes128-ofb-parts-end c =
     let c1 = c2 .before .before .before .before in
     let n = length (c1 .before .before .before .before .before .before .before .before .before .before .args .payload .now) in
     reaches (c1 .copy .last .1 .0) (c2 .copy2 .last .1 .0) 2 (n + 2 - 2) (n + 2) (c2 .copy2 .kept .1 .0) (part-copy-end (c2 .before .before))
-
-slice-aggregate-apply-aes128-ofb-parts : tie.Need-slice-aggregate-apply-aes128-ofb-parts
-slice-aggregate-apply-aes128-ofb-parts c = search needs
-
-cipher-key-requires : tie.Need-cipher-key-requires
-cipher-key-requires c κs = search needs
-
-apply-aes128-ofb-parts-requires : tie.Need-apply-aes128-ofb-parts-requires
-apply-aes128-ofb-parts-requires c κs = search needs
-
-slice-aggregate-copy-2 : tie.Need-slice-aggregate-copy-2
-slice-aggregate-copy-2 c = search needs
-
-sub-copy-2 : tie.Need-sub-copy-2
-sub-copy-2 c = search needs
-
-part-copy-start-2 : tie.Need-part-copy-start-2
-part-copy-start-2 c = search needs
 
 part-copy-end-2 : tie.Need-part-copy-end-2
 unfolding aesSize
@@ -96,12 +33,6 @@ part-copy-end-2 c =
     let room : n + 10 ≤ length s = omega (arith, st .pre, c1 .copy .kept .1 .0) in
     reaches (with-part s 2 (n + 2 - 2) (c2 .copy2 .last .1 .0)) (ofb .apply-aes128-ofb-parts .last .0) 2 (n + 2 - 2) (n + 10) (ofb .apply-aes128-ofb-parts .kept .0)
     (reaches s (c2 .copy2 .last .1 .0) 2 (n + 2 - 2) (n + 10) (c2 .copy2 .kept .1 .0) room)
-
-copy-requires-3 : tie.Need-copy-requires-3
-copy-requires-3 c κs = search needs
-
-same-length : tie.Need-same-length
-same-length c = search needs
 
 returns : tie.Need-returns
 unfolding aesSize
@@ -132,30 +63,30 @@ pub write-aes-spec : {M : Type 1} → statement M
 write-aes-spec =
     tie.close
     (tie.spec
-    add-end
-    add-size
-    cast-t14
-    cast-t17
-    challenge-3c-requires
-    build-initial-vector-v2-aes128-requires
-    mac-key-requires
-    calculate-mac-v2-aes128-requires
-    slice-aggregate-copy
-    copy-requires
-    sub-copy
-    part-copy-start
+    (λ c. search needs)
+    (λ c. search needs)
+    (λ c. search needs)
+    (λ c. search needs)
+    (λ c κs. search needs)
+    (λ c κs. search needs)
+    (λ c κs. search needs)
+    (λ c κs. search needs)
+    (λ c. search needs)
+    (λ c κs. search needs)
+    (λ c. search needs)
+    (λ c. search needs)
     part-copy-end
-    copy-requires-2
-    sub-apply-aes128-ofb-parts
-    part-apply-aes128-ofb-parts-start
+    (λ c κs. search needs)
+    (λ c. search needs)
+    (λ c. search needs)
     part-apply-aes128-ofb-parts-end
-    slice-aggregate-apply-aes128-ofb-parts
-    cipher-key-requires
-    apply-aes128-ofb-parts-requires
-    slice-aggregate-copy-2
-    sub-copy-2
-    part-copy-start-2
+    (λ c. search needs)
+    (λ c κs. search needs)
+    (λ c κs. search needs)
+    (λ c. search needs)
+    (λ c. search needs)
+    (λ c. search needs)
     part-copy-end-2
-    copy-requires-3
-    same-length
+    (λ c κs. search needs)
+    (λ c. search needs)
     returns)

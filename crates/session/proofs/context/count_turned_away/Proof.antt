@@ -14,12 +14,9 @@ returns-2 c = counting-high (c .before .before .args .number) _ (omega (arith, c
 returns-3 : tie.Need-returns-3
 returns-3 c = counting-full (c .before .before .before .args .number) _ (c .before .before .if1 .left) (omega (arith, c .before .if2 .left)) (c .if3 .taken)
 
-add-next : tie.Need-add-next
-add-next c = search needs
-
 returns-4 : tie.Need-returns-4
 unfolding withCount
 returns-4 c = counting-more (c .before .before .before .args .number) _ (c .before .before .if1 .left) (omega (arith, c .before .if2 .left)) (omega (arith, c .before .before .before .good))
 
 pub count-turned-away-spec : {M : Type 1} → statement M
-count-turned-away-spec = tie.close (tie.spec returns returns-2 returns-3 add-next returns-4)
+count-turned-away-spec = tie.close (tie.spec returns returns-2 returns-3 (λ c. search needs) returns-4)

@@ -4,27 +4,6 @@ use borrow.Author.Needs.{needs}
 use Rattle.session.proofs.context.establish.Statement.{statement}
 use Rattle.session.proofs.context.establish.Tie as tie
 
-slice-aggregate-copy : tie.Need-slice-aggregate-copy
-slice-aggregate-copy c = search needs
-
-copy-requires : tie.Need-copy-requires
-copy-requires c κs = search needs
-
-slice-aggregate-copy-2 : tie.Need-slice-aggregate-copy-2
-slice-aggregate-copy-2 c = search needs
-
-copy-requires-2 : tie.Need-copy-requires-2
-copy-requires-2 c κs = search needs
-
-slice-aggregate-copy-3 : tie.Need-slice-aggregate-copy-3
-slice-aggregate-copy-3 c = search needs
-
-copy-requires-3 : tie.Need-copy-requires-3
-copy-requires-3 c κs = search needs
-
-cast-t21 : tie.Need-cast-t21
-cast-t21 c = search needs
-
 returns : tie.Need-returns
 unfolding established
 returns c =
@@ -41,11 +20,11 @@ pub establish-spec : {M : Type 1} → statement M
 establish-spec =
     tie.close
     (tie.spec
-    slice-aggregate-copy
-    copy-requires
-    slice-aggregate-copy-2
-    copy-requires-2
-    slice-aggregate-copy-3
-    copy-requires-3
-    cast-t21
+    (λ c. search needs)
+    (λ c κs. search needs)
+    (λ c. search needs)
+    (λ c κs. search needs)
+    (λ c. search needs)
+    (λ c κs. search needs)
+    (λ c. search needs)
     returns)

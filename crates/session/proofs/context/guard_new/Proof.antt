@@ -21,9 +21,6 @@ returns-3 : tie.Need-returns-3
 unfolding makeRows firstOf choose isnt either
 returns-3 c = rw (mark-one-two _ (c .before .before .if1 .left) (c .before .if2 .left), ne-eqb _ _ (c .if3 .taken))
 
-credentials-size-requires : tie.Need-credentials-size-requires
-credentials-size-requires c κs = search needs
-
 returns-4 : tie.Need-returns-4
 unfolding makeRows firstOf choose isnt either
 returns-4 c =
@@ -61,7 +58,7 @@ guard-new-spec =
     returns
     returns-2
     returns-3
-    credentials-size-requires
+    (λ c κs. search needs)
     returns-4
     returns-5
     returns-6

@@ -4,9 +4,6 @@ use borrow.Author.Needs.{needs}
 use Rattle.session.proofs.keys.bears.Statement.{statement}
 use Rattle.session.proofs.keys.bears.Tie as tie
 
-is-key-free-service-requires : tie.Need-is-key-free-service-requires
-is-key-free-service-requires c κs = search needs
-
 returns : tie.Need-returns
 returns c = sym (one-free _ (sym (c .before .is-key-free-service .ensures) ∙ c .if1 .taken))
 
@@ -14,4 +11,4 @@ returns-2 : tie.Need-returns-2
 returns-2 c = sym (one-bearing _ (sym (c .before .is-key-free-service .ensures) ∙ c .if1 .left))
 
 pub bears-spec : {M : Type 1} → statement M
-bears-spec = tie.close (tie.spec is-key-free-service-requires returns returns-2)
+bears-spec = tie.close (tie.spec (λ c κs. search needs) returns returns-2)

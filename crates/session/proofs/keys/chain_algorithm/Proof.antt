@@ -4,26 +4,11 @@ use borrow.Author.Needs.{needs}
 use Rattle.session.proofs.keys.chain_algorithm.Statement.{statement}
 use Rattle.session.proofs.keys.chain_algorithm.Tie as tie
 
-by-scheme-requires : tie.Need-by-scheme-requires
-by-scheme-requires c κs = search needs
-
 returns : tie.Need-returns
 returns c = chooses-mark _ _ _ _ _ (c .before .if1 .taken) (c .by-scheme .ensures)
 
-add-listed : tie.Need-add-listed
-add-listed c = search needs
-
 returns-2 : tie.Need-returns-2
 returns-2 c = chooses-none _ _ _ _ _ (c .before .if1 .left) (c .if2 .taken) (refl, refl)
-
-target-node-requires : tie.Need-target-node-requires
-target-node-requires c κs = search needs
-
-has-key-requires : tie.Need-has-key-requires
-has-key-requires c κs = search needs
-
-by-scheme-requires-2 : tie.Need-by-scheme-requires-2
-by-scheme-requires-2 c κs = search needs
 
 returns-3 : tie.Need-returns-3
 returns-3 c =
@@ -31,12 +16,6 @@ returns-3 c =
     let t = i .before .before in
     let e = t .before in
     chooses-aes _ _ _ _ _ (e .before .if1 .left) (e .if2 .left) _ (t .target-node .ensures) _ (i .before .has-key .ensures) (i .if3 .taken) (c .by-scheme2 .ensures)
-
-has-key-requires-2 : tie.Need-has-key-requires-2
-has-key-requires-2 c κs = search needs
-
-by-scheme-requires-3 : tie.Need-by-scheme-requires-3
-by-scheme-requires-3 c κs = search needs
 
 returns-4 : tie.Need-returns-4
 returns-4 c =
@@ -57,15 +36,15 @@ pub chain-algorithm-spec : {M : Type 1} → statement M
 chain-algorithm-spec =
     tie.close
     (tie.spec
-    by-scheme-requires
+    (λ c κs. search needs)
     returns
-    add-listed
+    (λ c. search needs)
     returns-2
-    target-node-requires
-    has-key-requires
-    by-scheme-requires-2
+    (λ c κs. search needs)
+    (λ c κs. search needs)
+    (λ c κs. search needs)
     returns-3
-    has-key-requires-2
-    by-scheme-requires-3
+    (λ c κs. search needs)
+    (λ c κs. search needs)
     returns-4
     returns-5)

@@ -14,45 +14,6 @@ slice-aggregate-eight c =
     let h : 8 ≤ length g = omega arith in
     sym (length-take-le 8 g h)
 
-eight-requires : tie.Need-eight-requires
-eight-requires c κs = search needs
-
-sub-encrypt-des-under-each : tie.Need-sub-encrypt-des-under-each
-sub-encrypt-des-under-each c = search needs
-
-part-encrypt-des-under-each-start : tie.Need-part-encrypt-des-under-each-start
-part-encrypt-des-under-each-start c = search needs
-
-part-encrypt-des-under-each-end : tie.Need-part-encrypt-des-under-each-end
-part-encrypt-des-under-each-end c = search needs
-
-encrypt-des-under-each-requires : tie.Need-encrypt-des-under-each-requires
-encrypt-des-under-each-requires c κs = search needs
-
-sub-encrypt-des-under-each-2 : tie.Need-sub-encrypt-des-under-each-2
-sub-encrypt-des-under-each-2 c = search needs
-
-part-encrypt-des-under-each-start-2 : tie.Need-part-encrypt-des-under-each-start-2
-part-encrypt-des-under-each-start-2 c = search needs
-
-part-encrypt-des-under-each-end-2 : tie.Need-part-encrypt-des-under-each-end-2
-part-encrypt-des-under-each-end-2 c = search needs
-
-encrypt-des-under-each-requires-2 : tie.Need-encrypt-des-under-each-requires-2
-encrypt-des-under-each-requires-2 c κs = search needs
-
-slice-aggregate-deliver : tie.Need-slice-aggregate-deliver
-slice-aggregate-deliver c = search needs
-
-slice-aggregate-deliver-2 : tie.Need-slice-aggregate-deliver-2
-slice-aggregate-deliver-2 c = search needs
-
-deliver-requires : tie.Need-deliver-requires
-deliver-requires c κs = search needs
-
-same-length : tie.Need-same-length
-same-length c = search needs
-
 returns : tie.Need-returns
 returns c =
     let d = c .before .before in
@@ -67,17 +28,17 @@ chain-des-spec =
     tie.close
     (tie.spec
     slice-aggregate-eight
-    eight-requires
-    sub-encrypt-des-under-each
-    part-encrypt-des-under-each-start
-    part-encrypt-des-under-each-end
-    encrypt-des-under-each-requires
-    sub-encrypt-des-under-each-2
-    part-encrypt-des-under-each-start-2
-    part-encrypt-des-under-each-end-2
-    encrypt-des-under-each-requires-2
-    slice-aggregate-deliver
-    slice-aggregate-deliver-2
-    deliver-requires
-    same-length
+    (λ c κs. search needs)
+    (λ c. search needs)
+    (λ c. search needs)
+    (λ c. search needs)
+    (λ c κs. search needs)
+    (λ c. search needs)
+    (λ c. search needs)
+    (λ c. search needs)
+    (λ c κs. search needs)
+    (λ c. search needs)
+    (λ c. search needs)
+    (λ c κs. search needs)
+    (λ c. search needs)
     returns)

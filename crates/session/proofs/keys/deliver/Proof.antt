@@ -10,12 +10,6 @@ use native.Mathlib.Omega.{arith}
 use Rattle.session.proofs.keys.deliver.Statement.{statement}
 use Rattle.session.proofs.keys.deliver.Tie as tie
 
-add-size : tie.Need-add-size
-add-size c = search needs
-
-refused-requires : tie.Need-refused-requires
-refused-requires c κs = search needs
-
 returns : tie.Need-returns
 returns c =
     let i = c .before in
@@ -23,27 +17,6 @@ returns c =
     let e = length-append (a .first .now) (a .second .now) in
     let h : length (a .out .now) < length (a .first .now ++ a .second .now) = omega arith in
     short-derives (a .scheme) (a .first .now ++ a .second .now) _ (a .out .now) h (c .refused .ensures)
-
-copy-requires : tie.Need-copy-requires
-copy-requires c κs = search needs
-
-sub-copy : tie.Need-sub-copy
-sub-copy c = search needs
-
-part-copy-start : tie.Need-part-copy-start
-part-copy-start c = search needs
-
-part-copy-end : tie.Need-part-copy-end
-part-copy-end c = search needs
-
-copy-requires-2 : tie.Need-copy-requires-2
-copy-requires-2 c κs = search needs
-
-cast-sized : tie.Need-cast-sized
-cast-sized c = search needs
-
-same-length : tie.Need-same-length
-same-length c = search needs
 
 returns-2 : tie.Need-returns-2
 returns-2 c =
@@ -68,15 +41,15 @@ pub deliver-spec : {M : Type 1} → statement M
 deliver-spec =
     tie.close
     (tie.spec
-    add-size
-    refused-requires
-    returns
-    copy-requires
-    sub-copy
-    part-copy-start
-    part-copy-end
-    copy-requires-2
-    cast-sized
+    (λ c. search needs)
     (λ c κs. search needs)
-    same-length
+    returns
+    (λ c κs. search needs)
+    (λ c. search needs)
+    (λ c. search needs)
+    (λ c. search needs)
+    (λ c κs. search needs)
+    (λ c. search needs)
+    (λ c κs. search needs)
+    (λ c. search needs)
     returns-2)

@@ -6,17 +6,8 @@ use native.Mathlib.Omega.{arith}
 use Rattle.session.proofs.keys.derive_auth_keys.Statement.{statement}
 use Rattle.session.proofs.keys.derive_auth_keys.Tie as tie
 
-guard-derive-requires : tie.Need-guard-derive-requires
-guard-derive-requires c κs = search needs
-
-refused-requires : tie.Need-refused-requires
-refused-requires c κs = search needs
-
 returns : tie.Need-returns
 returns c = guard-refused _ _ _ _ _ _ _ (c .before .before .guard-derive .ensures) _ _ (c .before .if1 .taken) (c .refused .ensures)
-
-slice-aggregate-parse-nodes : tie.Need-slice-aggregate-parse-nodes
-slice-aggregate-parse-nodes c = search needs
 
 parse-nodes-requires : tie.Need-parse-nodes-requires
 parse-nodes-requires c κs =
@@ -24,9 +15,6 @@ parse-nodes-requires c κs =
     let g = i .before in
     let h = guard-passed _ _ _ _ _ _ (g .guard-derive .ensures) (i .if1 .left) .few-areas in
     omega arith
-
-slice-aggregate-parse-nodes-2 : tie.Need-slice-aggregate-parse-nodes-2
-slice-aggregate-parse-nodes-2 c = search needs
 
 parse-nodes-requires-2 : tie.Need-parse-nodes-requires-2
 parse-nodes-requires-2 c κs =
@@ -76,9 +64,6 @@ derive-for-requires c κs =
     let f2 = h .few-services in
     (omega arith, (omega arith, h .individual-fits))
 
-same-length : tie.Need-same-length
-same-length c = search needs
-
 returns-2 : tie.Need-returns-2
 returns-2 c =
     let d = c .before .before in
@@ -92,17 +77,17 @@ pub derive-auth-keys-spec : {M : Type 1} → statement M
 derive-auth-keys-spec =
     tie.close
     (tie.spec
-    guard-derive-requires
-    refused-requires
+    (λ c κs. search needs)
+    (λ c κs. search needs)
     returns
-    slice-aggregate-parse-nodes
+    (λ c. search needs)
     parse-nodes-requires
-    slice-aggregate-parse-nodes-2
+    (λ c. search needs)
     parse-nodes-requires-2
     array-share-prefix-area-nodes
     slice-aggregate-derive-for
     array-share-prefix-service-nodes
     slice-aggregate-derive-for-2
     derive-for-requires
-    same-length
+    (λ c. search needs)
     returns-2)

@@ -6,18 +6,6 @@ use native.Mathlib.Omega.{arith}
 use Rattle.session.proofs.keys.derive_des.Statement.{statement}
 use Rattle.session.proofs.keys.derive_des.Tie as tie
 
-slice-aggregate-keep-bearing : tie.Need-slice-aggregate-keep-bearing
-slice-aggregate-keep-bearing c = search needs
-
-keep-bearing-requires : tie.Need-keep-bearing-requires
-keep-bearing-requires c κs = search needs
-
-guard-des-requires : tie.Need-guard-des-requires
-guard-des-requires c κs = search needs
-
-refused-requires : tie.Need-refused-requires
-refused-requires c κs = search needs
-
 returns : tie.Need-returns
 returns c =
     let i = c .before in
@@ -38,9 +26,6 @@ derive-des-bearing-requires c κs =
     let p = kb .before .before .before .before .before .before .before .pre in
     (p .0, omega arith)
 
-same-length : tie.Need-same-length
-same-length c = search needs
-
 returns-2 : tie.Need-returns-2
 returns-2 c =
     let d = c .before .before in
@@ -53,13 +38,13 @@ pub derive-des-spec : {M : Type 1} → statement M
 derive-des-spec =
     tie.close
     (tie.spec
-    slice-aggregate-keep-bearing
-    keep-bearing-requires
-    guard-des-requires
-    refused-requires
+    (λ c. search needs)
+    (λ c κs. search needs)
+    (λ c κs. search needs)
+    (λ c κs. search needs)
     returns
     array-share-prefix-kept
     slice-aggregate-derive-des-bearing
     derive-des-bearing-requires
-    same-length
+    (λ c. search needs)
     returns-2)

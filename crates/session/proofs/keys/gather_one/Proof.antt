@@ -10,21 +10,12 @@ use Rattle.session.proofs.keys.gather_one.Tie as tie
 returns : tie.Need-returns
 returns c = (omega arith, λ ns s. holds-stuck _ _ ns _ _ s (_ ∷ []) (c .if1 .taken))
 
-find-key-requires : tie.Need-find-key-requires
-find-key-requires c κs = search needs
-
-lacking-requires : tie.Need-lacking-requires
-lacking-requires c κs = search needs
-
 returns-2 : tie.Need-returns-2
 returns-2 c =
     let l = c .lacking .ensures in
     let i = c .before in
     let f = i .before in
     (omega arith, λ ns s. holds-lacks _ _ ns _ _ s (f .before .if1 .left) _ _ (has-none _ _ _ _ (f .find-key .ensures) (i .if2 .taken)) (l .0) (l .1) (l .2))
-
-key-length-requires : tie.Need-key-length-requires
-key-length-requires c κs = search needs
 
 mul-key : tie.Need-mul-key
 mul-key c = let h = has-one _ _ _ _ (c .before .before .find-key .ensures) (c .before .if2 .left) .0 in omega (arith, h, c .key-length .ensures .1)
@@ -38,29 +29,11 @@ add-key-end c = let h = has-one _ _ _ _ (c .before .before .find-key .ensures) (
 add-end : tie.Need-add-end
 add-end c = omega (arith, c .key-length .ensures .1)
 
-sub-copy : tie.Need-sub-copy
-sub-copy c = search needs
-
-part-copy-start : tie.Need-part-copy-start
-part-copy-start c = search needs
-
 part-copy-end : tie.Need-part-copy-end
 part-copy-end c = let h = has-one _ _ _ _ (c .before .before .find-key .ensures) (c .before .if2 .left) .0 in omega (arith, h, c .key-length .ensures .1)
 
-sub-copy-2 : tie.Need-sub-copy-2
-sub-copy-2 c = search needs
-
-part-copy-start-2 : tie.Need-part-copy-start-2
-part-copy-start-2 c = search needs
-
 part-copy-end-2 : tie.Need-part-copy-end-2
 part-copy-end-2 c = omega (arith, c .before .key-length .ensures .1)
-
-copy-requires : tie.Need-copy-requires
-copy-requires c κs = search needs
-
-same-length : tie.Need-same-length
-same-length c = search needs
 
 returns-3 : tie.Need-returns-3
 returns-3 c =
@@ -77,20 +50,20 @@ gather-one-spec =
     tie.close
     (tie.spec
     returns
-    find-key-requires
-    lacking-requires
+    (λ c κs. search needs)
+    (λ c κs. search needs)
     returns-2
-    key-length-requires
+    (λ c κs. search needs)
     mul-key
     add-key
     add-key-end
     add-end
-    sub-copy
-    part-copy-start
+    (λ c. search needs)
+    (λ c. search needs)
     part-copy-end
-    sub-copy-2
-    part-copy-start-2
+    (λ c. search needs)
+    (λ c. search needs)
     part-copy-end-2
-    copy-requires
-    same-length
+    (λ c κs. search needs)
+    (λ c. search needs)
     returns-3)

@@ -13,17 +13,11 @@ returns : tie.Need-returns
 unfolding deriveRows firstOf choose either
 returns c = rw (lt-ltb _ _ (c .if1 .taken))
 
-lengths-wrong-requires : tie.Need-lengths-wrong-requires
-lengths-wrong-requires c κs = search needs
-
 returns-2 : tie.Need-returns-2
 unfolding deriveRows firstOf choose either
 returns-2 c =
     let l = c .before in
     rw (le-ltb _ _ (l .before .if1 .left), sym (l .lengths-wrong .ensures) ∙ c .if2 .taken)
-
-any-algorithm-unknown-requires : tie.Need-any-algorithm-unknown-requires
-any-algorithm-unknown-requires c κs = search needs
 
 returns-3 : tie.Need-returns-3
 unfolding deriveRows firstOf either
@@ -31,9 +25,6 @@ returns-3 c =
     let u = c .before in
     let l = u .before .before in
     rw (le-ltb _ _ (l .before .if1 .left), sym (l .lengths-wrong .ensures) ∙ u .before .if2 .left) (first-row _ _ _ (sym (u .any-algorithm-unknown .ensures) ∙ c .if3 .taken))
-
-too-many-requires : tie.Need-too-many-requires
-too-many-requires c κs = search needs
 
 returns-4 : tie.Need-returns-4
 unfolding deriveRows firstOf choose either
@@ -43,9 +34,6 @@ returns-4 c =
     let l = u .before .before in
     let a = l .before .before .before .before .before .before .args in
     rw (le-ltb _ _ (l .before .if1 .left), sym (l .lengths-wrong .ensures) ∙ u .before .if2 .left, sym (u .any-algorithm-unknown .ensures) ∙ t .before .if3 .left, too-many (a .keys .now) (a .areas .now) (a .services .now) ∙ sym (t .too-many .ensures) ∙ c .if4 .taken)
-
-any-key-twice-requires : tie.Need-any-key-twice-requires
-any-key-twice-requires c κs = search needs
 
 returns-5 : tie.Need-returns-5
 unfolding deriveRows firstOf choose either
@@ -72,12 +60,12 @@ guard-derive-spec =
     tie.close
     (tie.spec
     returns
-    lengths-wrong-requires
+    (λ c κs. search needs)
     returns-2
-    any-algorithm-unknown-requires
+    (λ c κs. search needs)
     returns-3
-    too-many-requires
+    (λ c κs. search needs)
     returns-4
-    any-key-twice-requires
+    (λ c κs. search needs)
     returns-5
     returns-6)

@@ -3,14 +3,8 @@ use borrow.Author.Needs.{needs}
 use Rattle.session.proofs.keys.individual_key.Statement.{statement}
 use Rattle.session.proofs.keys.individual_key.Tie as tie
 
-slice-aggregate-copy : tie.Need-slice-aggregate-copy
-slice-aggregate-copy c = search needs
-
-copy-requires : tie.Need-copy-requires
-copy-requires c κs = search needs
-
 returns : tie.Need-returns
 returns c = own-copied _ _ (c .before .before .before .before .pre) (c .before .copy .ensures)
 
 pub individual-key-spec : {M : Type 1} → statement M
-individual-key-spec = tie.close (tie.spec slice-aggregate-copy copy-requires returns)
+individual-key-spec = tie.close (tie.spec (λ c. search needs) (λ c κs. search needs) returns)

@@ -6,18 +6,9 @@ use borrow.Author.Needs.{needs}
 use Rattle.session.proofs.keys.is_for.Statement.{statement}
 use Rattle.session.proofs.keys.is_for.Tie as tie
 
-node-at-requires : tie.Need-node-at-requires
-node-at-requires c κs = search needs
-
 returns : tie.Need-returns
 unfolding isFor entryOf both
 returns c = rw (← (c .before .node-at .ensures), ne-eqb _ _ (c .if1 .taken))
-
-add-mark : tie.Need-add-mark
-add-mark c = search needs
-
-shared-slice-read-result : tie.Need-shared-slice-read-result
-shared-slice-read-result c = search needs
 
 returns-2 : tie.Need-returns-2
 unfolding isFor entryOf both
@@ -25,4 +16,4 @@ returns-2 c = rw (← (c .before .before .node-at .ensures), eq-eqb _ _ (c .befo
 
 pub is-for-spec : {M : Type 1} → statement M
 is-for-spec =
-    tie.close (tie.spec node-at-requires returns add-mark shared-slice-read-result returns-2)
+    tie.close (tie.spec (λ c κs. search needs) returns (λ c. search needs) (λ c. search needs) returns-2)

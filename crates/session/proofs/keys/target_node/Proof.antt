@@ -5,26 +5,11 @@ use borrow.Author.Needs.{needs}
 use Rattle.session.proofs.keys.target_node.Statement.{statement}
 use Rattle.session.proofs.keys.target_node.Tie as tie
 
-slice-aggregate-keep-bearing : tie.Need-slice-aggregate-keep-bearing
-slice-aggregate-keep-bearing c = search needs
-
-keep-bearing-requires : tie.Need-keep-bearing-requires
-keep-bearing-requires c κs = search needs
-
-last-node-requires : tie.Need-last-node-requires
-last-node-requires c κs = search needs
-
-last-node-requires-2 : tie.Need-last-node-requires-2
-last-node-requires-2 c κs = search needs
-
 array-share-prefix-kept : tie.Need-array-share-prefix-kept
 array-share-prefix-kept c = search needs
 
 slice-aggregate-last-node : tie.Need-slice-aggregate-last-node
 slice-aggregate-last-node c = sym (length-take-le _ _ (array-share-prefix-kept (c .before)))
-
-last-node-requires-3 : tie.Need-last-node-requires-3
-last-node-requires-3 c κs = search needs
 
 returns : tie.Need-returns
 returns c =
@@ -37,11 +22,11 @@ pub target-node-spec : {M : Type 1} → statement M
 target-node-spec =
     tie.close
     (tie.spec
-    slice-aggregate-keep-bearing
-    keep-bearing-requires
-    last-node-requires
-    last-node-requires-2
+    (λ c. search needs)
+    (λ c κs. search needs)
+    (λ c κs. search needs)
+    (λ c κs. search needs)
     array-share-prefix-kept
     slice-aggregate-last-node
-    last-node-requires-3
+    (λ c κs. search needs)
     returns)

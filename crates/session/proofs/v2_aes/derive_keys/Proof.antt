@@ -3,16 +3,10 @@ use borrow.Author.Needs.{needs}
 use Rattle.session.proofs.v2_aes.derive_keys.Statement.{statement}
 use Rattle.session.proofs.v2_aes.derive_keys.Tie as tie
 
-encrypt-aes128-block-requires : tie.Need-encrypt-aes128-block-requires
-encrypt-aes128-block-requires c κs = search needs
-
-encrypt-aes128-block-requires-2 : tie.Need-encrypt-aes128-block-requires-2
-encrypt-aes128-block-requires-2 c κs = search needs
-
 returns : tie.Need-returns
 unfolding sessionKeyInput
 returns c = (c .before .encrypt-aes128-block .ensures, c .encrypt-aes128-block2 .ensures)
 
 pub derive-keys-spec : {M : Type 1} → statement M
 derive-keys-spec =
-    tie.close (tie.spec encrypt-aes128-block-requires encrypt-aes128-block-requires-2 returns)
+    tie.close (tie.spec (λ c κs. search needs) (λ c κs. search needs) returns)

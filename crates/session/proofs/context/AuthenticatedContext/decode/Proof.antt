@@ -8,81 +8,6 @@ use borrow.Author.Needs.{needs}
 use Rattle.session.proofs.context.AuthenticatedContext.decode.Statement.{statement}
 use Rattle.session.proofs.context.AuthenticatedContext.decode.Tie as tie
 
-sub-copy : tie.Need-sub-copy
-sub-copy c = search needs
-
-part-copy-start : tie.Need-part-copy-start
-part-copy-start c = search needs
-
-part-copy-end : tie.Need-part-copy-end
-part-copy-end c = search needs
-
-slice-aggregate-copy : tie.Need-slice-aggregate-copy
-slice-aggregate-copy c = search needs
-
-copy-requires : tie.Need-copy-requires
-copy-requires c κs = search needs
-
-sub-copy-2 : tie.Need-sub-copy-2
-sub-copy-2 c = search needs
-
-part-copy-start-2 : tie.Need-part-copy-start-2
-part-copy-start-2 c = search needs
-
-part-copy-end-2 : tie.Need-part-copy-end-2
-part-copy-end-2 c = search needs
-
-slice-aggregate-copy-2 : tie.Need-slice-aggregate-copy-2
-slice-aggregate-copy-2 c = search needs
-
-copy-requires-2 : tie.Need-copy-requires-2
-copy-requires-2 c κs = search needs
-
-sub-copy-3 : tie.Need-sub-copy-3
-sub-copy-3 c = search needs
-
-part-copy-start-3 : tie.Need-part-copy-start-3
-part-copy-start-3 c = search needs
-
-part-copy-end-3 : tie.Need-part-copy-end-3
-part-copy-end-3 c = search needs
-
-slice-aggregate-copy-3 : tie.Need-slice-aggregate-copy-3
-slice-aggregate-copy-3 c = search needs
-
-copy-requires-3 : tie.Need-copy-requires-3
-copy-requires-3 c κs = search needs
-
-array-read-number-of-bytes : tie.Need-array-read-number-of-bytes
-array-read-number-of-bytes c = search needs
-
-array-read-number-of-bytes-2 : tie.Need-array-read-number-of-bytes-2
-array-read-number-of-bytes-2 c = search needs
-
-number-of-bytes-requires : tie.Need-number-of-bytes-requires
-number-of-bytes-requires c κs = search needs
-
-array-read-t36 : tie.Need-array-read-t36
-array-read-t36 c = search needs
-
-array-read-number-of-bytes-3 : tie.Need-array-read-number-of-bytes-3
-array-read-number-of-bytes-3 c = search needs
-
-array-read-number-of-bytes-4 : tie.Need-array-read-number-of-bytes-4
-array-read-number-of-bytes-4 c = search needs
-
-number-of-bytes-requires-2 : tie.Need-number-of-bytes-requires-2
-number-of-bytes-requires-2 c κs = search needs
-
-array-read-number-of-bytes-5 : tie.Need-array-read-number-of-bytes-5
-array-read-number-of-bytes-5 c = search needs
-
-array-read-number-of-bytes-6 : tie.Need-array-read-number-of-bytes-6
-array-read-number-of-bytes-6 c = search needs
-
-number-of-bytes-requires-3 : tie.Need-number-of-bytes-requires-3
-number-of-bytes-requires-3 c κs = search needs
-
 returns : tie.Need-returns
 unfolding contextOf
 returns c =
@@ -102,29 +27,29 @@ pub decode-spec : {M : Type 1} → statement M
 decode-spec =
     tie.close
     (tie.spec
-    sub-copy
-    part-copy-start
-    part-copy-end
-    slice-aggregate-copy
-    copy-requires
-    sub-copy-2
-    part-copy-start-2
-    part-copy-end-2
-    slice-aggregate-copy-2
-    copy-requires-2
-    sub-copy-3
-    part-copy-start-3
-    part-copy-end-3
-    slice-aggregate-copy-3
-    copy-requires-3
-    array-read-number-of-bytes
-    array-read-number-of-bytes-2
-    number-of-bytes-requires
-    array-read-t36
-    array-read-number-of-bytes-3
-    array-read-number-of-bytes-4
-    number-of-bytes-requires-2
-    array-read-number-of-bytes-5
-    array-read-number-of-bytes-6
-    number-of-bytes-requires-3
+    (λ c. search needs)
+    (λ c. search needs)
+    (λ c. search needs)
+    (λ c. search needs)
+    (λ c κs. search needs)
+    (λ c. search needs)
+    (λ c. search needs)
+    (λ c. search needs)
+    (λ c. search needs)
+    (λ c κs. search needs)
+    (λ c. search needs)
+    (λ c. search needs)
+    (λ c. search needs)
+    (λ c. search needs)
+    (λ c κs. search needs)
+    (λ c. search needs)
+    (λ c. search needs)
+    (λ c κs. search needs)
+    (λ c. search needs)
+    (λ c. search needs)
+    (λ c. search needs)
+    (λ c κs. search needs)
+    (λ c. search needs)
+    (λ c. search needs)
+    (λ c κs. search needs)
     returns)

@@ -4,12 +4,6 @@ use borrow.Author.Needs.{needs}
 use Rattle.session.proofs.context.AuthenticatedContext.new.Statement.{statement}
 use Rattle.session.proofs.context.AuthenticatedContext.new.Tie as tie
 
-guard-new-requires : tie.Need-guard-new-requires
-guard-new-requires c κs = search needs
-
-empty-requires : tie.Need-empty-requires
-empty-requires c κs = search needs
-
 returns : tie.Need-returns
 returns c =
     let i = c .before in
@@ -29,4 +23,4 @@ returns-2 c =
 
 pub new-spec : {M : Type 1} → statement M
 new-spec =
-    tie.close (tie.spec guard-new-requires empty-requires returns establish-requires returns-2)
+    tie.close (tie.spec (λ c κs. search needs) (λ c κs. search needs) returns establish-requires returns-2)

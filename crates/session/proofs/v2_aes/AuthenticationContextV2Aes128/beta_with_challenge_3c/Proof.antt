@@ -6,18 +6,6 @@ use Rattle.session.proofs.v2_aes.AuthenticationContextV2Aes128.beta_wit
 }
 use Rattle.session.proofs.v2_aes.AuthenticationContextV2Aes128.beta_with_challenge_3c.Tie as tie
 
-slice-aggregate-copy : tie.Need-slice-aggregate-copy
-slice-aggregate-copy c = search needs
-
-slice-aggregate-copy-2 : tie.Need-slice-aggregate-copy-2
-slice-aggregate-copy-2 c = search needs
-
-copy-requires : tie.Need-copy-requires
-copy-requires c κs = search needs
-
-xor-blocks16-requires : tie.Need-xor-blocks16-requires
-xor-blocks16-requires c κs = search needs
-
 returns : tie.Need-returns
 returns c =
     let cp = c .before .before in
@@ -29,8 +17,8 @@ pub beta-with-challenge-3c-spec : {M : Type 1} → statement M
 beta-with-challenge-3c-spec =
     tie.close
     (tie.spec
-    slice-aggregate-copy
-    slice-aggregate-copy-2
-    copy-requires
-    xor-blocks16-requires
+    (λ c. search needs)
+    (λ c. search needs)
+    (λ c κs. search needs)
+    (λ c κs. search needs)
     returns)

@@ -5,15 +5,9 @@ use Rattle.session.proofs.v2_aes.AuthenticationContextV2Aes128.decrypt_
 }
 use Rattle.session.proofs.v2_aes.AuthenticationContextV2Aes128.decrypt_challenge2a.Tie as tie
 
-beta-with-challenge-3c-requires : tie.Need-beta-with-challenge-3c-requires
-beta-with-challenge-3c-requires c κs = search needs
-
-decrypt-aes128-block-requires : tie.Need-decrypt-aes128-block-requires
-decrypt-aes128-block-requires c κs = search needs
-
 returns : tie.Need-returns
 returns c = decrypted _ _ _ _ (c .before .beta-with-challenge-3c .ensures) (c .decrypt-aes128-block .ensures)
 
 pub decrypt-challenge2a-spec : {M : Type 1} → statement M
 decrypt-challenge2a-spec =
-    tie.close (tie.spec beta-with-challenge-3c-requires decrypt-aes128-block-requires returns)
+    tie.close (tie.spec (λ c κs. search needs) (λ c κs. search needs) returns)

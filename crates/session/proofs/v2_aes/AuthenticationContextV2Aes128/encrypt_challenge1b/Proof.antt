@@ -6,15 +6,9 @@ use Rattle.session.proofs.v2_aes.AuthenticationContextV2Aes128.encrypt_
 }
 use Rattle.session.proofs.v2_aes.AuthenticationContextV2Aes128.encrypt_challenge1b.Tie as tie
 
-beta-with-challenge-3c-requires : tie.Need-beta-with-challenge-3c-requires
-beta-with-challenge-3c-requires c κs = search needs
-
-encrypt-aes128-block-requires : tie.Need-encrypt-aes128-block-requires
-encrypt-aes128-block-requires c κs = search needs
-
 returns : tie.Need-returns
 returns c = encrypted _ _ _ _ _ (c .before .beta-with-challenge-3c .ensures) refl (c .encrypt-aes128-block .ensures)
 
 pub encrypt-challenge1b-spec : {M : Type 1} → statement M
 encrypt-challenge1b-spec =
-    tie.close (tie.spec beta-with-challenge-3c-requires encrypt-aes128-block-requires returns)
+    tie.close (tie.spec (λ c κs. search needs) (λ c κs. search needs) returns)

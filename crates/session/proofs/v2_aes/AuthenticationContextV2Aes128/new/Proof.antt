@@ -3,9 +3,6 @@ use borrow.Author.Needs.{needs}
 use Rattle.session.proofs.v2_aes.AuthenticationContextV2Aes128.new.Statement.{statement}
 use Rattle.session.proofs.v2_aes.AuthenticationContextV2Aes128.new.Tie as tie
 
-xor-blocks16-requires : tie.Need-xor-blocks16-requires
-xor-blocks16-requires c κs = search needs
-
 build-authentication-context-block-v2-aes128-requires :
     tie.Need-build-authentication-context-block-v2-aes128-requires
 build-authentication-context-block-v2-aes128-requires c κs = search needs
@@ -13,12 +10,6 @@ build-authentication-context-block-v2-aes128-requires c κs = search needs
 build-authentication-context-block-v2-aes128-requires-2 :
     tie.Need-build-authentication-context-block-v2-aes128-requires-2
 build-authentication-context-block-v2-aes128-requires-2 c κs = search needs
-
-encrypt-aes128-block-requires : tie.Need-encrypt-aes128-block-requires
-encrypt-aes128-block-requires c κs = search needs
-
-encrypt-aes128-block-requires-2 : tie.Need-encrypt-aes128-block-requires-2
-encrypt-aes128-block-requires-2 c κs = search needs
 
 returns : tie.Need-returns
 returns c =
@@ -32,9 +23,9 @@ pub new-spec : {M : Type 1} → statement M
 new-spec =
     tie.close
     (tie.spec
-    xor-blocks16-requires
+    (λ c κs. search needs)
     build-authentication-context-block-v2-aes128-requires
     build-authentication-context-block-v2-aes128-requires-2
-    encrypt-aes128-block-requires
-    encrypt-aes128-block-requires-2
+    (λ c κs. search needs)
+    (λ c κs. search needs)
     returns)
