@@ -299,7 +299,7 @@ DEPARTURES = [
     Departure("a package over 4,096 bytes", "registration package | takes any", long_package, refuses(12)),
     Departure("reading of 1A, AES", "AES reading of 1A, checking of 2B", reading_1a, reads_1a),
     Departure("checking of 2B", "AES reading of 1A, checking of 2B", has("check2b"), checks_2b),
-    Departure("trimmed opening", "`open_trimmed_des` | has no such function", has("trimmed"), trims),
+    Departure("trimmed opening", "`decrypt_secure_response_trimmed_des` | has no such function", has("trimmed"), trims),
     Departure("forecast", "`forecast` | has no such function", has("forecast"), forecasts),
     Departure("another ID and a low number", "the response step | `apply`, in tests only", late_id, receives),
     Departure("the response step, AES", "the response step, AES | not there", receiving_aes, receives),

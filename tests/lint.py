@@ -9,7 +9,7 @@ that a test can fail, and that no crate, edit or table stands where the gate doe
 tests/lint_test.py plants a fault for each.
 
     public-requires   a public or exported function has a `requires`
-    public-ensures    a public or exported function, of a crate that an archive is made of, has no `ensures`
+    public-ensures    a public or exported function of a library crate has no `ensures`
     own-symbol        a name of the kit is given another meaning
     proofs-cited      a contract or a definition cites a proof
     inner-cited       a public contract, a named theorem or an outer definition cites specs/inner/
@@ -311,10 +311,9 @@ class Repository:
     def is_program(self, crate):
         return "crates/%s/src/main.rt" % crate in self.tree
 
-    def in_archives(self):
-        """The crates that export functions to C, and all below them."""
-        exporting = {f.crate for f in self.rt if any("extern" in g.mark for g in functions(f.text))}
-        return exporting.union(*(self.below(c) for c in exporting))
+    def libraries(self):
+        """The library crates of the product. What reads and writes (a crate over io, libc or os) is part of a test program."""
+        return {c for c in self.depends if not self.is_program(c) and not {"io", "libc", "os"} & set(self.depends[c])}
 
     def fault(self, rule, path, line, what):
         self.faults.append("%s: %s:%d: %s" % (rule, path, line, what))
@@ -324,13 +323,13 @@ class Repository:
 
 
 def contracts(repo):
-    """A public or exported function has no requires, and has an ensures. Programs, and what only they use, may go without the second."""
-    archived = repo.in_archives()
+    """A public or exported function has no requires, and has an ensures. Programs, and crates that read and write for them, may go without the second."""
+    libraries = repo.libraries()
     for f in repo.rt:
         for g in functions(f.text):
             if g.public and g.has("requires"):
                 repo.fault("public-requires", f.path, g.line, "%s has a requires" % g.name)
-            if g.public and f.crate in archived and not g.has("ensures"):
+            if g.public and f.crate in libraries and not g.has("ensures"):
                 repo.fault("public-ensures", f.path, g.line, "%s has no ensures" % g.name)
 
 

@@ -30,11 +30,7 @@ fn asked(line: &[u8]) -> Which {
 
 // What no operation answers.
 fn nothing() -> Answer {
-    Answer {
-        number: 255,
-        length: 0,
-        transaction_number: 0,
-    }
+    answer::refused(255)
 }
 
 pub(crate) fn make(line: &[u8], out: &mut [u8]) -> Answer {

@@ -20,8 +20,8 @@ use Rattle.answer.proofs.Rows.{either-false, isnt-false, numbered, first-passes
 use Rattle.frame.proofs.DesOpens.{rest-part}
 use Rattle.session.specs.Entries.{Entry, entries, nodes, has}
 use Rattle.session.specs.ServiceCode.{bearing}
-use Rattle.session.specs.Derivation.{keyLength, Derived, Derives, turnedDown, derived, byRows, needing, keyOf, keysOf, groupDes, userDes, derivedDes, chainStart, groupAes, individualKey, derivedAes, target, derivedBy, chosen, derivedFor, lengthsWrong, deriveRows, derivedBefore16, withRoom, derivation}
-use Rattle.session.specs.inner.DerivationSteps.{Refuses, Chooses, missing, Holds, desRows, chainDes, bearingDes}
+use Rattle.session.specs.Derivation.{desRows, keyLength, Derived, Derives, turnedDown, derived, byRows, needing, keyOf, keysOf, groupDes, userDes, derivedDes, chainStart, groupAes, individualKey, derivedAes, target, derivedBy, chosen, derivedFor, lengthsWrong, deriveRows, derivedBefore16, withRoom, derivation}
+use Rattle.session.specs.inner.DerivationSteps.{Refuses, Chooses, missing, Holds, chainDes, bearingDes}
 use Rattle.session.specs.declared.keys.Choice.{Choice}
 use Rattle.session.specs.declared.keys.DerivedAuthKeys.{DerivedAuthKeys}
 use Rattle.session.specs.declared.keys.Gathered.{Gathered}

@@ -15,7 +15,7 @@ use Rattle.answer.specs.Tests.{either, both}
 use Rattle.cipher.proofs.Numbers.{le-or-lt}
 use Rattle.answer.proofs.Rows.{Refused, refused-meets, numbered, decide-false, first-refuses, first-passes, either-false, is-number}
 use Rattle.frame.proofs.Schemes.{opening-whole}
-use Rattle.session.specs.Session.{credentialsSize, credentialsOf, makeRows, filled, withNumber, withCount, stepped, Steps, more, counting, opened, acceptRows, receiving, received, Receives}
+use Rattle.session.specs.Session.{credentialsSize, credentialsOf, makeRows, filled, withNumber, withCount, Step, stepped, Steps, more, counting, opened, acceptRows, receiving, received, Receives}
 use Rattle.session.specs.declared.context.AuthenticatedContext.{AuthenticatedContext}
 use Rattle.answer.specs.declared.answer.Answer.{Answer}
 use Rattle.session.specs.declared.context.Received.{Received}
@@ -23,13 +23,29 @@ use Rattle.session.specs.declared.context.Received.{Received}
 -- ---- the number step
 
 module _ (s : AuthenticatedContext) (r : Answer) (u : AuthenticatedContext) where
-  pub steps-refused : s .«transaction_number» ≡ 65535 → Refused 9 r → u ≡ s → Steps s r u
+  stepped-full : s .«transaction_number» ≡ 65535 → stepped s ≡ record { number = 9; transaction = 0; session = s }
   unfolding stepped choose
-  steps-refused e h c = let q = eq-eqb _ _ e in record { number = h .0 ∙ rw q; length-none = h .1; transaction = h .2 ∙ rw q; session = c ∙ rw q }
+  stepped-full e = rw (eq-eqb _ _ e)
+
+  stepped-on : (s .«transaction_number» ≡ 65535 → ⊥) → stepped s ≡ record { number = 0; transaction = s .«transaction_number» + 1; session = withNumber (s .«transaction_number» + 1) s }
+  unfolding stepped choose
+  stepped-on e = rw (ne-eqb _ _ e)
+
+  -- an answer and a session that are those of a step
+  steps-as : (t : Step) → stepped s ≡ t → (r .number ≡ t .number) × (r .length ≡ 0) × (r .«transaction_number» ≡ t .transaction) → u ≡ t .session → Steps s r u
+  steps-as t q h c =
+      record {
+        number = h .0 ∙ sym (ap (λ (x : Step). x .number) q);
+        length-none = h .1;
+        transaction = h .2 ∙ sym (ap (λ (x : Step). x .transaction) q);
+        session = c ∙ sym (ap (λ (x : Step). x .session) q);
+      }
+
+  pub steps-refused : s .«transaction_number» ≡ 65535 → Refused 9 r → u ≡ s → Steps s r u
+  steps-refused e h c = steps-as _ (stepped-full e) h c
 
   pub steps-on : (s .«transaction_number» ≡ 65535 → ⊥) → (r .number ≡ 0) × (r .length ≡ 0) × (r .«transaction_number» ≡ s .«transaction_number» + 1) → u ≡ withNumber (s .«transaction_number» + 1) s → Steps s r u
-  unfolding stepped choose
-  steps-on e h c = let q = ne-eqb _ _ e in record { number = h .0 ∙ rw q; length-none = h .1; transaction = h .2 ∙ rw q; session = c ∙ rw q }
+  steps-on e h c = steps-as _ (stepped-on e) h c
 
 -- ---- the count
 

@@ -76,11 +76,14 @@ groupDes es areas = underEach desEncrypt 8 (keysOf es DES areas) (keyOf es DES s
 unfoldable pub userDes : List Entry → List ℕ → List ℕ → List ℕ
 userDes es areas services = underEach desEncrypt 8 (keysOf es DES (bearing services)) (groupDes es areas)
 
--- 6, 7, 8, then 4 or 5 for the system, areas, services in order; DES skips key-free services
+-- 6, 7, 8, by the numbers of individual key bytes, areas, and services that bear a key
+unfoldable pub desRows : ℕ → ℕ → ℕ → List Row
+desRows individual areas services = row 6 (isnt (eqb individual 0)) ∷ row 7 (eqb areas 0) ∷ row 8 (eqb services 0) ∷ []
+
+-- then 4 or 5 for the system, areas, services in order; DES skips key-free services
 unfoldable pub derivedDes : List Entry → List ℕ → List ℕ → List ℕ → Derived
 derivedDes es areas services individual =
-    byRows
-    (row 6 (isnt (eqb (length individual) 0)) ∷ row 7 (eqb (length areas) 0) ∷ row 8 (eqb (length (bearing services)) 0) ∷ [])
+    byRows (desRows (length individual) (length areas) (length (bearing services)))
     (needing es DES (system ∷ (areas ++ bearing services)) (derived DES (groupDes es areas ++ userDes es areas services)))
 
 -- ---- AES: the chain starts at 01 01, thirteen 00, 80; each key in list order encrypts it

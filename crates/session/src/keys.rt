@@ -9,8 +9,8 @@ ghost use lib.Dec.{eqb, ltb};
 ghost use lib.ListN.{length, take, drop};
 ghost use Rattle.answer.specs.Outcome.{firstOf};
 ghost use Rattle.answer.specs.Tests.{isnt, either};
-ghost use Rattle.session.specs.Derivation.{Derives, other, keyLength, lacks, derived, derivedDes, individualKey, derivedAes, last, target, derivedFor, lengthsWrong, deriveRows, derivation, withRoom};
-ghost use Rattle.session.specs.inner.DerivationSteps.{Refuses, Chooses, Holds, desRows, chainDes, bearingDes};
+ghost use Rattle.session.specs.Derivation.{desRows, Derives, other, keyLength, lacks, derived, derivedDes, individualKey, derivedAes, last, target, derivedFor, lengthsWrong, deriveRows, derivation, withRoom};
+ghost use Rattle.session.specs.inner.DerivationSteps.{Refuses, Chooses, Holds, chainDes, bearingDes};
 ghost use Rattle.session.specs.Entries.{entryOf, entries, nodes, isFor, place, has, unknownAlgorithm, twice};
 ghost use Rattle.session.specs.ServiceCode.{bearing};
 

@@ -6,8 +6,7 @@ use lib.Dec.{eqb}
 use lib.ListN.{length, take}
 use Rattle.cipher.specs.Fips46.{desEncrypt}
 use Rattle.cipher.specs.Fold.{underEach}
-use Rattle.answer.specs.Outcome.{Row, row, choose}
-use Rattle.answer.specs.Tests.{isnt}
+use Rattle.answer.specs.Outcome.{choose}
 use Rattle.session.specs.Entries.{Entry}
 use Rattle.session.specs.Derivation.{Derived, turnedDown, derived, DES, system, needing, keyOf, keysOf, derivedBy, derivedFor}
 use Rattle.session.specs.declared.keys.Choice.{Choice}
@@ -39,10 +38,6 @@ pub record Holds (es : List Entry) (algorithm : ℕ) (ns : List ℕ) (g : Gather
   pub node : g .node ≡ missing es algorithm ns .node
   pub within : g .size ≤ length w
   pub bytes : g .number ≡ 0 → take (g .size) w ≡ keysOf es algorithm ns
-
--- 6, 7, 8
-unfoldable pub desRows : ℕ → ℕ → ℕ → List Row
-desRows individual areas services = row 6 (isnt (eqb individual 0)) ∷ row 7 (eqb areas 0) ∷ row 8 (eqb services 0) ∷ []
 
 -- group key and user key of gathered keys
 unfoldable pub chainDes : List ℕ → List ℕ → List ℕ → List ℕ

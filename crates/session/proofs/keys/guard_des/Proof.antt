@@ -2,7 +2,7 @@ use borrow.Author.Tests.{eq-eqb, ne-eqb}
 use Rattle.answer.specs.Outcome.{choose}
 use Rattle.answer.specs.Outcome.{firstOf}
 use Rattle.answer.specs.Tests.{isnt}
-use Rattle.session.specs.inner.DerivationSteps.{desRows}
+use Rattle.session.specs.Derivation.{desRows}
 use Rattle.session.proofs.keys.guard_des.Statement.{statement}
 use Rattle.session.proofs.keys.guard_des.Tie as tie
 
