@@ -8,7 +8,7 @@ use lib.ListN.{length, take, drop, length-append, length-drop, take-append-drop}
 use lib.Seq.{length-take-le, take-at, drop-at}
 use Rattle.cipher.specs.Bits.{num, toBits, toBytes}
 use Rattle.cipher.specs.Bytes.{Bytes}
-use Rattle.cipher.specs.Fips46.{select, IP, IP⁻¹, P, f, Halves, round, rounds, crypt, KS, encipher, decipher}
+use Rattle.cipher.specs.Fips46.{select, IP, IP⁻¹, P, f, Halves, round, iterations, crypt, KS, encipher, decipher}
 use Rattle.cipher.specs.Fips46.{desEncrypt, desDecrypt, tdeaEncrypt, tdeaDecrypt, tdea2Encrypt, tdea2Decrypt}
 use Rattle.cipher.proofs.BitWords.{bitAt, down, down-num, length-select, length-⊞, ⊞-twice, length-toBytes, Bytes-toBytes, toBits-toBytes, toBytes-toBits}
 use Rattle.cipher.proofs.BitWords.{length-toBits}
@@ -31,28 +31,28 @@ round-whole : (k : List Bool) (h : Halves) → Whole h → Whole (round k h)
 unfolding round
 round-whole k h w = (w .1, length-⊞ (h .L) (f (h .R) k) (w .0 ∙ sym (length-f (h .R) k)) ∙ w .0)
 
-rounds-whole : (ks : List (List Bool)) (h : Halves) → Whole h → Whole (rounds ks h)
-unfolding rounds
-rounds-whole [] h w = w
-rounds-whole (k ∷ ks) h w = rounds-whole ks (round k h) (round-whole k h w)
+iterations-whole : (ks : List (List Bool)) (h : Halves) → Whole h → Whole (iterations ks h)
+unfolding iterations
+iterations-whole [] h w = w
+iterations-whole (k ∷ ks) h w = iterations-whole ks (round k h) (round-whole k h w)
 
 -- a round of the turned result of a round turns its argument
 round-back : (k : List Bool) (h : Halves) → Whole h → round k (turned (round k h)) ≡ turned h
 unfolding round
 round-back k h w = ap (halves (h .R)) (⊞-twice (h .L) (f (h .R) k) (w .0 ∙ sym (length-f (h .R) k)))
 
-rounds-snoc : (ks : List (List Bool)) (k : List Bool) (h : Halves) → rounds (ks ++ (k ∷ [])) h ≡ round k (rounds ks h)
-unfolding rounds
-rounds-snoc [] k h = refl
-rounds-snoc (j ∷ ks) k h = rounds-snoc ks k (round j h)
+iterations-snoc : (ks : List (List Bool)) (k : List Bool) (h : Halves) → iterations (ks ++ (k ∷ [])) h ≡ round k (iterations ks h)
+unfolding iterations
+iterations-snoc [] k h = refl
+iterations-snoc (j ∷ ks) k h = iterations-snoc ks k (round j h)
 
-rounds-back : (ks : List (List Bool)) (h : Halves) → Whole h → rounds (reverse ks) (turned (rounds ks h)) ≡ turned h
-unfolding rounds
-rounds-back [] h w = refl
-rounds-back (k ∷ ks) h w =
-    ap (λ (t : List (List Bool)). rounds t (turned (rounds ks (round k h)))) (reverse-cons k ks)
-    ∙ rounds-snoc (reverse ks) k (turned (rounds ks (round k h)))
-    ∙ ap (round k) (rounds-back ks (round k h) (round-whole k h w))
+iterations-back : (ks : List (List Bool)) (h : Halves) → Whole h → iterations (reverse ks) (turned (iterations ks h)) ≡ turned h
+unfolding iterations
+iterations-back [] h w = refl
+iterations-back (k ∷ ks) h w =
+    ap (λ (t : List (List Bool)). iterations t (turned (iterations ks (round k h)))) (reverse-cons k ks)
+    ∙ iterations-snoc (reverse ks) k (turned (iterations ks (round k h)))
+    ∙ ap (round k) (iterations-back ks (round k h) (round-whole k h w))
     ∙ round-back k h w
 
 -- ---- a block of bits
@@ -95,13 +95,13 @@ start-whole b =
 pub crypt-back : (ks : List (List Bool)) (b : List Bool) → length b ≡ 64 → crypt (reverse ks) (crypt ks b) ≡ b
 unfolding crypt
 crypt-back ks b h =
-    let e : Halves = rounds ks (start b) in
-    let w : Whole e = rounds-whole ks (start b) (start-whole b) in
+    let e : Halves = iterations ks (start b) in
+    let w : Whole e = iterations-whole ks (start b) (start-whole b) in
     let n : length (e .R ++ e .L) ≡ 64 = length-append (e .R) (e .L) ∙ omega (arith, w .0, w .1) in
     let p : select IP (select IP⁻¹ (e .R ++ e .L)) ≡ e .R ++ e .L = ip-forth (e .R ++ e .L) n in
     let q : start (select IP⁻¹ (e .R ++ e .L)) ≡ turned e =
     ap₂ halves (ap (take 32) p ∙ take-at (e .R) (e .L) 32 (w .1)) (ap (drop 32) p ∙ drop-at (e .R) (e .L) 32 (w .1)) in
-    ap (λ (t : Halves). select IP⁻¹ (t .R ++ t .L)) (ap (rounds (reverse ks)) q ∙ rounds-back ks (start b) (start-whole b))
+    ap (λ (t : Halves). select IP⁻¹ (t .R ++ t .L)) (ap (iterations (reverse ks)) q ∙ iterations-back ks (start b) (start-whole b))
     ∙ ap (select IP⁻¹) (take-append-drop 32 (select IP b))
     ∙ ip-back b h
 

@@ -16,7 +16,7 @@ use lib.Seq.{take-at, drop-at, take-suc-set, drop-cons, take-all}
 use Rattle.cipher.specs.Bits.{bits, num, _⊞_, toBits}
 use Rattle.cipher.specs.Bytes.{tab}
 use Rattle.cipher.specs.Fips46.{select, leftShift, shifts, keysFrom, KS, PC1, PC2}
-use Rattle.cipher.specs.inner.DesTables.{among, packed, places, pc2Bits, Pc2Table, transposed, keyBits}
+use Rattle.cipher.specs.inner.DesTables.{among, packedPlaces, places, pc2Bits, Pc2Table, transposed, keyBits}
 use Rattle.cipher.proofs.BitWords.{bitAt, down, bits-down, bits-shr, length-bits, length-select, bits-mod, bits-join, bits-split, bits-rotate, bits-num}
 use Rattle.cipher.proofs.BitWords.{select-append}
 use Rattle.cipher.proofs.DesWords.{mirrored, loaded}
@@ -97,8 +97,8 @@ shift-word m n c k h e = bits-rotate m n c h ∙ ap (λ (j : ℕ). leftShift j (
 
 -- ---- PC-2
 
-length-places : (n : ℕ) → n < 2 → length (packed (take 24 (drop (n * 24) PC2))) ≡ 32
-unfolding packed PC2
+length-places : (n : ℕ) → n < 2 → length (packedPlaces (take 24 (drop (n * 24) PC2))) ≡ 32
+unfolding packedPlaces PC2
 length-places zero h = refl
 length-places (suc zero) h = refl
 length-places (suc (suc n)) h = absurd (omega arith)
@@ -173,7 +173,7 @@ key-bits : (g h : ℕ → Bool) →
     let a = select (places 0) (among 0 28 (down 28 g)) in
     let b = select (places 4) (among 28 0 (down 28 h)) in
     groups ((drop 16 a ++ drop 16 b) ++ (take 16 a ++ take 16 b)) ≡ select PC2 (down 28 g ++ down 28 h)
-unfolding groups six select places packed PC2 among down
+unfolding groups six select places packedPlaces PC2 among down
 key-bits g h = refl
 
 low-half : (x : ℕ) → drop 16 (bits 32 x) ≡ bits 16 x

@@ -7,7 +7,7 @@ use lib.Dec.{eqb, eqb→eq}
 use lib.ListN.{getD}
 use Rattle.cipher.specs.Bits.{bool, digit, bits, num, numFrom}
 use Rattle.cipher.specs.Fips46.{select, PC2}
-use Rattle.cipher.specs.inner.DesTables.{among, packed, places, pc2Bits, Pc2Table}
+use Rattle.cipher.specs.inner.DesTables.{among, packedPlaces, places, pc2Bits, Pc2Table}
 use Rattle.cipher.proofs.Table.{at}
 
 right : ℕ → ℕ → Bool
@@ -145,5 +145,5 @@ pc2 =
     ∷ 134746113 ∷ 134746117 ∷ 134746369 ∷ 134746373 ∷ 134746113 ∷ 134746117 ∷ 134746369 ∷ 134746373 ∷ []
 
 pub pc2-table : Pc2Table pc2
-unfolding pc2 right bool digit bits num numFrom select PC2 among packed places pc2Bits
+unfolding pc2 right bool digit bits num numFrom select PC2 among packedPlaces places pc2Bits
 pc2-table = record { long = refl; entry = λ i h. eqb→eq (getD pc2 i 0) (num (pc2Bits (i / 128) (i % 128))) (at right pc2 tt i h) }

@@ -12,7 +12,7 @@ use lib.Bits.{bitXor, xor-shr}
 use lib.ListN.{length, take, drop, getD, length-append, length-map, length-reverse, drop-of-length-le, List·getD-append}
 use lib.Seq.{take-at, drop-at, drop-cons, getD-at, take-all}
 use Rattle.cipher.specs.Bits.{bits, num, _⊞_, toBits, toBytes}
-use Rattle.cipher.specs.Fips46.{select, leftShift, substitute, substituteAll, f, P, E, IP, IP⁻¹, S1, S2, S3, S4, S5, S6, S7, S8, Halves, round, rounds, crypt}
+use Rattle.cipher.specs.Fips46.{select, leftShift, substitute, substituteAll, f, P, E, IP, IP⁻¹, S1, S2, S3, S4, S5, S6, S7, S8, Halves, round, iterations, crypt}
 use Rattle.cipher.specs.Fips46.{KS}
 use Rattle.cipher.specs.Fips46.{encipher, decipher, desEncrypt, desDecrypt, tdeaEncrypt, tdeaDecrypt, tdea2Encrypt, tdea2Decrypt}
 use Rattle.cipher.specs.inner.DesTables.{among, held, keyBits, box, spBits, SpTable}
@@ -246,27 +246,27 @@ state l r = halves (held l) (held r)
 
 -- i rounds are done: those that are left take l and r to what all of them make of l₀ and r₀
 abbrev pub Rounds : List (List Bool) → ℕ → ℕ → ℕ → ℕ → ℕ → Type 0
-Rounds ks l₀ r₀ l r i = rounds (drop i ks) (state l r) ≡ rounds ks (state l₀ r₀)
+Rounds ks l₀ r₀ l r i = iterations (drop i ks) (state l r) ≡ iterations ks (state l₀ r₀)
 
 -- one round on the words that hold the halves
-pub round-turn : (ks : List (List Bool)) (k : List Bool) (l r x : ℕ) → held x ≡ f (held r) k → rounds ks (state r (bitXor l x)) ≡ rounds (k ∷ ks) (state l r)
-unfolding rounds round
-round-turn ks k l r x q = ap (λ (t : List Bool). rounds ks (halves (held r) t)) (held-xor l x ∙ ap (λ (t : List Bool). held l ⊞ t) q)
+pub round-turn : (ks : List (List Bool)) (k : List Bool) (l r x : ℕ) → held x ≡ f (held r) k → iterations ks (state r (bitXor l x)) ≡ iterations (k ∷ ks) (state l r)
+unfolding iterations round
+round-turn ks k l r x q = ap (λ (t : List Bool). iterations ks (halves (held r) t)) (held-xor l x ∙ ap (λ (t : List Bool). held l ⊞ t) q)
 
-pub rounds-turn : (ks : List (List Bool)) (l₀ r₀ l r i x : ℕ) (k : List Bool) → Rounds ks l₀ r₀ l r i → i < length ks → getD ks i [] ≡ k
+pub iterations-turn : (ks : List (List Bool)) (l₀ r₀ l r i x : ℕ) (k : List Bool) → Rounds ks l₀ r₀ l r i → i < length ks → getD ks i [] ≡ k
     → held x ≡ f (held r) k → Rounds ks l₀ r₀ r (bitXor l x) (i + 1)
-rounds-turn ks l₀ r₀ l r i x k h b e q =
+iterations-turn ks l₀ r₀ l r i x k h b e q =
     rw (add-one i)
     (round-turn (drop (suc i) ks) k l r x q
-    ∙ ap (λ (t : List (List Bool)). rounds t (state l r)) (ap (λ (j : List Bool). j ∷ drop (suc i) ks) (sym e) ∙ sym (drop-cons ks i [] b))
+    ∙ ap (λ (t : List (List Bool)). iterations t (state l r)) (ap (λ (j : List Bool). j ∷ drop (suc i) ks) (sym e) ∙ sym (drop-cons ks i [] b))
     ∙ h)
 
-pub rounds-done : (ks : List (List Bool)) (l₀ r₀ l r i : ℕ) → Rounds ks l₀ r₀ l r i → length ks ≤ i → state l r ≡ rounds ks (state l₀ r₀)
-unfolding rounds
-rounds-done ks l₀ r₀ l r i h b = ap (λ (t : List (List Bool)). rounds t (state l r)) (sym (drop-of-length-le ks b)) ∙ h
+pub iterations-done : (ks : List (List Bool)) (l₀ r₀ l r i : ℕ) → Rounds ks l₀ r₀ l r i → length ks ≤ i → state l r ≡ iterations ks (state l₀ r₀)
+unfolding iterations
+iterations-done ks l₀ r₀ l r i h b = ap (λ (t : List (List Bool)). iterations t (state l r)) (sym (drop-of-length-le ks b)) ∙ h
 
 pub crypt-word : (ks : List (List Bool)) (b : List Bool) (x l₀ r₀ l r : ℕ) (out : List ℕ) → bits 32 x ++ bits 32 (x / 2 ^ 32) ≡ select IP b
-    → held l₀ ≡ bits 32 x → held r₀ ≡ bits 32 (x / 2 ^ 32) → state l r ≡ rounds ks (state l₀ r₀)
+    → held l₀ ≡ bits 32 x → held r₀ ≡ bits 32 (x / 2 ^ 32) → state l r ≡ iterations ks (state l₀ r₀)
     → out ≡ toBytes 8 (select IP⁻¹ (held r ++ held l)) → out ≡ toBytes 8 (crypt ks b)
 unfolding crypt
 crypt-word ks b x l₀ r₀ l r out p hl hr e o =
@@ -274,7 +274,7 @@ crypt-word ks b x l₀ r₀ l r out p hl hr e o =
     let hi : List Bool = bits 32 (x / 2 ^ 32) in
     let first : held l₀ ≡ take 32 (select IP b) = hl ∙ sym (take-at lo hi 32 (length-bits 32 x)) ∙ ap (take 32) p in
     let second : held r₀ ≡ drop 32 (select IP b) = hr ∙ sym (drop-at lo hi 32 (length-bits 32 x)) ∙ ap (drop 32) p in
-    o ∙ ap (λ (h : Halves). toBytes 8 (select IP⁻¹ (h .R ++ h .L))) (e ∙ ap₂ (λ (a c : List Bool). rounds ks (halves a c)) first second)
+    o ∙ ap (λ (h : Halves). toBytes 8 (select IP⁻¹ (h .R ++ h .L))) (e ∙ ap₂ (λ (a c : List Bool). iterations ks (halves a c)) first second)
 
 -- the keys in the order of the rounds, and in the other order
 pub key-at : (ks : List ℕ) (i : ℕ) → i < length ks → getD (map keyBits ks) i [] ≡ keyBits (getD ks i 0)

@@ -172,7 +172,7 @@ keysFrom (n ∷ ns) c d = select PC2 (leftShift n c ++ leftShift n d) ∷ keysFr
 unfoldable pub KS : List Bool → List (List Bool)
 KS key = keysFrom shifts (take 28 (select PC1 key)) (drop 28 (select PC1 key))
 
--- ---- the sixteen rounds
+-- ---- the sixteen iterations
 
 pub record Halves : Type 0 where
   pub L : List Bool
@@ -182,14 +182,14 @@ pub record Halves : Type 0 where
 unfoldable pub round : List Bool → Halves → Halves
 round k h = record { L = h .R; R = h .L ⊞ f (h .R) k }
 
-unfoldable pub rounds : List (List Bool) → Halves → Halves
-rounds [] h = h
-rounds (k ∷ ks) h = rounds ks (round k h)
+unfoldable pub iterations : List (List Bool) → Halves → Halves
+iterations [] h = h
+iterations (k ∷ ks) h = iterations ks (round k h)
 
 -- the preoutput block is R16 L16
 unfoldable pub crypt : List (List Bool) → List Bool → List Bool
 crypt ks b =
-    let h = rounds ks (record { L = take 32 (select IP b); R = drop 32 (select IP b) }) in
+    let h = iterations ks (record { L = take 32 (select IP b); R = drop 32 (select IP b) }) in
     select IP⁻¹ (h .R ++ h .L)
 
 -- Deciphering: the same, with K16 first and K1 last

@@ -52,13 +52,13 @@ pub record SpTable (t : List ℕ) : Type 0 where
 -- ---- the table of PC-2: entry 128 m + x is the part that the bits x, as the m-th seven bits of C and D, have in a half of a round key
 
 -- the places of four groups of six bits in a word: 2, 4, 1, 3, each after two clear bits (57 is past the bits of C and D)
-unfoldable pub packed : List ℕ → List ℕ
-packed p =
+unfoldable pub packedPlaces : List ℕ → List ℕ
+packedPlaces p =
     57 ∷ 57 ∷ take 6 (drop 6 p) ++ (57 ∷ 57 ∷ take 6 (drop 18 p) ++ (57 ∷ 57 ∷ take 6 p ++ (57 ∷ 57 ∷ take 6 (drop 12 p))))
 
 -- the places of the half of PC-2 to which the m-th seven bits go
 unfoldable pub places : ℕ → List ℕ
-places m = packed (take 24 (drop (m / 4 * 24) PC2))
+places m = packedPlaces (take 24 (drop (m / 4 * 24) PC2))
 
 unfoldable pub pc2Bits : ℕ → ℕ → List Bool
 pc2Bits m x = select (places m) (among (7 * m) (49 - 7 * m) (bits 7 x))

@@ -7,7 +7,7 @@ use borrow.Author.Needs.{needs}
 use lib.ListN.{length, length-map, length-reverse}
 use Rattle.cipher.specs.Bits.{toBits}
 use Rattle.cipher.specs.inner.DesTables.{keyBits}
-use Rattle.cipher.proofs.DesRounds.{Rounds, rounds-turn, rounds-done, crypt-word, key-back}
+use Rattle.cipher.proofs.DesRounds.{Rounds, iterations-turn, iterations-done, crypt-word, key-back}
 use Rattle.cipher.proofs.des.decrypt_with.Statement.{statement}
 use Rattle.cipher.proofs.des.decrypt_with.Tie as tie
 
@@ -54,7 +54,7 @@ loop-again c =
     let ks = a .args .ks .now in
     let i = h .loop .i in
     let long : length (reverse (map keyBits ks)) ≡ 16 = length-reverse (map keyBits ks) ∙ length-map ks keyBits ∙ a .pre .1 in
-    (omega arith, rounds-turn (reverse (map keyBits ks)) _ _ _ _ i _ _ (h .loop .inv .1) (omega arith) (key-back ks 15 i (a .pre .1) (omega arith)) (c .mangle .ensures))
+    (omega arith, iterations-turn (reverse (map keyBits ks)) _ _ _ _ i _ _ (h .loop .inv .1) (omega arith) (key-back ks 15 i (a .pre .1) (omega arith)) (c .mangle .ensures))
 
 last-requires : tie.Need-last-requires Inv-loop μ-loop
 last-requires c κs = search needs
@@ -69,7 +69,7 @@ returns c =
     let ks = a .args .ks .now in
     let long : length (reverse (map keyBits ks)) ≡ 16 = length-reverse (map keyBits ks) ∙ length-map ks keyBits ∙ a .pre .1 in
     crypt-word (reverse (map keyBits ks)) (toBits (a .args .block)) _ _ _ _ _ _ (x .initial .ensures) (l .left .ensures) (r .right .ensures)
-    (rounds-done (reverse (map keyBits ks)) _ _ _ _ (h .loop .i) (h .loop .inv .1) (omega arith)) (c .last .ensures)
+    (iterations-done (reverse (map keyBits ks)) _ _ _ _ (h .loop .i) (h .loop .inv .1) (omega arith)) (c .last .ensures)
 
 pub decrypt-with-spec : {M : Type 1} → statement M
 decrypt-with-spec =

@@ -7,7 +7,7 @@ use borrow.Author.Needs.{needs}
 use lib.ListN.{length, length-map}
 use Rattle.cipher.specs.Bits.{toBits}
 use Rattle.cipher.specs.inner.DesTables.{keyBits}
-use Rattle.cipher.proofs.DesRounds.{Rounds, rounds-turn, rounds-done, crypt-word, key-at}
+use Rattle.cipher.proofs.DesRounds.{Rounds, iterations-turn, iterations-done, crypt-word, key-at}
 use Rattle.cipher.proofs.des.encrypt_with.Tie as tie
 use Rattle.cipher.proofs.des.encrypt_with.Statement.{statement}
 
@@ -51,7 +51,7 @@ loop-again c =
     let ks = a .args .ks .now in
     let i = h .loop .i in
     let long : length (map keyBits ks) ≡ 16 = length-map ks keyBits ∙ a .pre .1 in
-    (omega arith, rounds-turn (map keyBits ks) _ _ _ _ i _ _ (h .loop .inv .1) (omega arith) (key-at ks i (omega arith)) (c .mangle .ensures))
+    (omega arith, iterations-turn (map keyBits ks) _ _ _ _ i _ _ (h .loop .inv .1) (omega arith) (key-at ks i (omega arith)) (c .mangle .ensures))
 
 last-requires : tie.Need-last-requires Inv-loop μ-loop
 last-requires c κs = search needs
@@ -66,7 +66,7 @@ returns c =
     let ks = a .args .ks .now in
     let long : length (map keyBits ks) ≡ 16 = length-map ks keyBits ∙ a .pre .1 in
     crypt-word (map keyBits ks) (toBits (a .args .block)) _ _ _ _ _ _ (x .initial .ensures) (l .left .ensures) (r .right .ensures)
-    (rounds-done (map keyBits ks) _ _ _ _ (h .loop .i) (h .loop .inv .1) (omega arith)) (c .last .ensures)
+    (iterations-done (map keyBits ks) _ _ _ _ (h .loop .i) (h .loop .inv .1) (omega arith)) (c .last .ensures)
 
 pub encrypt-with-spec : {M : Type 1} → statement M
 encrypt-with-spec =
