@@ -198,13 +198,11 @@ abbrev Delivered : List ℕ → Answer → List ℕ → List ℕ → Type 0
 Delivered b r o last = length b ≤ 65535 → Meets (delivering 0 b (length o)) r o last
 
 -- what `give` of src/challenge.rt ensures
-pub front-given : (s size : ℕ) (b : List ℕ) (r : Answer) (o last : List ℕ) → size ≡ blockSize s → length b ≡ 16 → Delivered (take (size - 0) b) r o last → Meets (giving false s (length o) (take (blockSize s) b)) r o last
+pub front-given : (s size : ℕ) (b : List ℕ) (r : Answer) (o last : List ℕ) → blockSize s ≡ size → length b ≡ 16 → Delivered (take size b) r o last → Meets (giving false s (length o) (take (blockSize s) b)) r o last
 unfolding giving delivering decide choose
-front-given s size b r o last es l m =
-    let z : size - 0 ≡ size = omega arith in
+front-given s size b r o last es l d =
     let k : length (take size b) ≡ size = length-take-le size b (omega (arith, size-most s)) in
-    let d : Delivered (take size b) r o last = rw z at m in
-    rw (← es) (rw k at (d (omega (arith, size-most s))))
+    rw es (rw k at (d (omega (arith, size-most s))))
 
 -- t is what a test of row 17 gave
 module _ (bad t : Bool) (s : ℕ) (want : List ℕ) (r : Answer) (o : List ℕ) (e : t ≡ bad) where

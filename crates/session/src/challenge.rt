@@ -148,8 +148,10 @@ fn under_beta_back(
 fn give(scheme: u8, bytes: [u8; 16], out: &mut [u8]) -> Answer
     ensures { λ r. ⌜ Meets (giving false scheme (length (now (out .entry))) (take (blockSize scheme) bytes)) r (now (out .entry)) (now (out .exit)) ⌝ }
 {
-    let size = block_size(scheme);
-    answer::deliver(0, &bytes[0..size], out)
+    if scheme == frame::DES {
+        return answer::deliver(0, &bytes[0..8], out);
+    }
+    answer::deliver(0, &bytes[0..16], out)
 }
 
 // 13, where a block is not the one wanted.

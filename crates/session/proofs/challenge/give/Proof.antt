@@ -1,20 +1,22 @@
 use native.Mathlib.Omega.{arith}
-use Rattle.session.proofs.Challenges.{size-most, front-given}
+use Rattle.session.proofs.Challenges.{size-des, size-aes, front-given}
 use borrow.Author.Needs.{needs}
 use Rattle.session.proofs.challenge.give.Statement.{statement}
 use Rattle.session.proofs.challenge.give.Tie as tie
 
-part-deliver-end : tie.Need-part-deliver-end
-part-deliver-end c =
-    let z = c .before in
-    omega (arith, size-most (z .before .before .args .scheme), z .block-size .ensures, z .before .before .good)
-
 returns : tie.Need-returns
 returns c =
     let d = c .before .before in
-    let z = d .before .before .before .before in
-    let st = z .before .before in
-    front-given (st .args .scheme) _ _ _ _ _ (z .block-size .ensures) (omega (arith, st .good)) (d .deliver .ensures)
+    let i = d .before .before .before .before in
+    let st = i .before .before in
+    front-given (st .args .scheme) 8 _ _ _ _ (size-des _ (i .if1 .taken)) (omega (arith, st .good)) (d .deliver .ensures)
+
+returns-2 : tie.Need-returns-2
+returns-2 c =
+    let d = c .before .before in
+    let i = d .before .before .before .before in
+    let st = i .before .before in
+    front-given (st .args .scheme) 16 _ _ _ _ (size-aes _ (i .if1 .left)) (omega (arith, st .good)) (d .deliver2 .ensures)
 
 pub give-spec : {M : Type 1} → statement M
-give-spec = tie.close (tie.spec (λ c κs. search needs) (λ c. search needs) (λ c. search needs) part-deliver-end (λ c κs. search needs) (λ c. search needs) returns)
+give-spec = tie.close (tie.spec (λ c. search needs) (λ c. search needs) (λ c. search needs) (λ c κs. search needs) (λ c. search needs) returns (λ c. search needs) (λ c. search needs) (λ c. search needs) (λ c κs. search needs) (λ c. search needs) returns-2)
