@@ -1,3 +1,4 @@
 pub mod Agreement
 pub mod Play
 pub mod Table
+pub mod inner
