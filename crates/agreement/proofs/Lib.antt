@@ -7,8 +7,6 @@
 -- Tape: an output that is written piece by piece
 pub mod Credentials
 pub mod Messages
-pub mod ScratchFrame
-pub mod ScratchSession
 pub mod Speaking
 pub mod Statement3
 pub mod Steps

@@ -1,9 +1,7 @@
 -- The messages of a transcript: what was made is read, and what was answered is accepted, where both ends hold the same. Assumes nothing.
 use mathlib.Core.Path.{_≡_, refl, sym, ap, _∙_}
 use mathlib.Core.List.{List, []}
-use mathlib.Core.Logic.{⊎-elim}
 use Prim.Native.Nat.{ℕ, _≤_, _<_}
-use native.Mathlib.Omega.{arith}
 use lib.ListN.{length, drop}
 use Rattle.cipher.specs.Bytes.{Bytes}
 use Rattle.cipher.proofs.ByteLists.{Block}
@@ -11,11 +9,10 @@ use Rattle.answer.specs.declared.answer.Answer.{Answer}
 use Rattle.answer.specs.Outcome.{Outcome, accepted, Meets}
 use Rattle.answer.proofs.Refusals.{accepted-zero}
 use Rattle.frame.specs.Scheme.{sealing, opening, responding}
+use Rattle.frame.proofs.Frames.{opens-again, frame-opens-again}
 use Rattle.session.specs.Challenge.{blockSize, making1A, reading1A, making1B, checking1B, making2A, reading2A, making2B, checking2B}
 use Rattle.session.proofs.Exchanges as two
 use Rattle.agreement.proofs.Steps.{Message}
-use Rattle.agreement.proofs.ScratchFrame.{opens-again, frame-opens-again}
-use Rattle.agreement.proofs.ScratchSession.{Right, makes-1a-only, makes-1b-only, makes-2a-only}
 
 zero-of : (o : Outcome) (b : List ℕ) → o ≡ accepted 0 b → o .number ≡ 0
 zero-of o b e = ap (λ (p : Outcome). p .number) e ∙ accepted-zero 0 b
@@ -29,8 +26,8 @@ bytes-of o b e = ap (λ (p : Outcome). p .bytes) e
 module _ (s : ℕ) (k idm c3 x : List ℕ) (bk : Bytes k) (bi : Bytes idm) (b3 : Bytes c3) (bx : Bytes x) where
   -- random 1
   module _ (z : making1A s k idm x 16 .number ≡ 0) where
-    right-1 : Right s k idm x 16
-    right-1 = makes-1a-only s k idm x bk bi bx 16 z
+    right-1 : two.Right s k idm x 16
+    right-1 = two.makes-1a-only s k idm x bk bi bx 16 z
 
     read-1 : reading1A s k idm (making1A s k idm x 16 .bytes) 16 ≡ accepted 0 x
     read-1 = let g = right-1 in two.reads-1a s k idm (g .ends) x 16 16 (g .block) (g .room-is) (g .room-is)
@@ -39,14 +36,14 @@ module _ (s : ℕ) (k idm c3 x : List ℕ) (bk : Bytes k) (bi : Bytes idm) (b3 :
         → checking1B s k idm c3 x (making1B s k idm c3 (reading1A s k idm (making1A s k idm x 16 .bytes) 16 .bytes) 16 .bytes) .number ≡ 0
     accepted-1 y =
         let g = right-1 in
-        let f3 = makes-1b-only s k idm x bk bi bx 16 c3 b3 (rw (bytes-of _ _ read-1) at y) .1 in
+        let f3 = two.makes-1b-only s k idm x bk bi bx 16 c3 b3 (rw (bytes-of _ _ read-1) at y) .1 in
         let m = two.answers-1b s k idm (g .ends) c3 f3 x 16 16 16 (g .block) (g .room-is) (g .room-is) (g .room-is) in
         zero-of _ [] (two.checks-1b s k idm (g .ends) c3 f3 x _ (g .block) .1 (bytes-of _ _ m))
 
   -- random 2
   module _ (z : making2A s k idm c3 x 16 .number ≡ 0) where
-    pub right-2 : Right s k idm x 16 × Block 4 c3
-    right-2 = makes-2a-only s k idm x bk bi bx 16 c3 b3 z
+    pub right-2 : two.Right s k idm x 16 × Block 4 c3
+    right-2 = two.makes-2a-only s k idm x bk bi bx 16 c3 b3 z
 
     pub read-2 : reading2A s k idm c3 (making2A s k idm c3 x 16 .bytes) 16 ≡ accepted 0 x
     read-2 = let g = right-2 .0 in two.reads-2a s k idm (g .ends) c3 (right-2 .1) x 16 16 (g .block) (g .room-is) (g .room-is)

@@ -2,12 +2,13 @@
 -- both exchanges of random blocks and for a command and its response. Assumes nothing.
 use mathlib.Core.Path.{_≡_, refl, sym, ap, ap₂, _∙_, subst}
 use mathlib.Core.List.{List, [], _∷_, _++_}
-use mathlib.Core.Logic.{_⊎_, inl, inr, ⊎-elim}
-use Prim.Native.Nat.{ℕ, zero, suc, _+_, _-_, _≤_}
+use mathlib.Core.Logic.{⊎-elim}
+use Prim.Native.Nat.{ℕ, zero, suc, _+_, _-_, _≤_, _<_}
 use native.Mathlib.Omega.{arith}
 use borrow.Author.Tests.{eq-eqb, ne-eqb}
 use lib.Dec.{eqb}
 use lib.ListN.{length, take, drop, length-append}
+use Rattle.cipher.proofs.Numbers.{le-or-lt}
 use Rattle.answer.specs.declared.answer.Answer.{Answer}
 use Rattle.answer.specs.Outcome.{Outcome, refused, accepted, choose, Meets}
 use Rattle.answer.proofs.Outputs.{front, copied-over}
@@ -63,10 +64,6 @@ copied-both a b o s last r room h1 h2 f =
 
 -- ---- a pair
 
-pub zero-or-not : (k : ℕ) → (k ≡ 0) ⊎ (k ≡ 0 → ⊥)
-zero-or-not zero = inl refl
-zero-or-not (suc k) = inr (λ e. omega arith)
-
 module _ (a b : Outcome) where
   pub pair-first : (a .number ≡ 0 → ⊥) → pair a b ≡ refused (a .number)
   unfolding pair unless choose
@@ -84,9 +81,9 @@ module _ (a b : Outcome) where
 pub pair-zero : (a b : Outcome) → pair a b .number ≡ 0 → a .number ≡ 0
 pair-zero a b z =
     ⊎-elim
-    (λ (e : a .number ≡ 0). e)
-    (λ (h : a .number ≡ 0 → ⊥). sym (refused-number (a .number)) ∙ ap (λ (o : Outcome). o .number) (sym (pair-first a b h)) ∙ z)
-    (zero-or-not (a .number))
+    (λ (l : 1 ≤ a .number). sym (refused-number (a .number)) ∙ ap (λ (o : Outcome). o .number) (sym (pair-first a b (λ e. omega arith))) ∙ z)
+    (λ (l : a .number < 1). omega arith)
+    (le-or-lt 1 (a .number))
 
 -- a number that is not 0 was refused
 refusal : (o : Outcome) (k : ℕ) (r : Answer) (out : List ℕ) → o ≡ refused k → Refused k r → Meets o r out out

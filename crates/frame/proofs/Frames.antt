@@ -16,15 +16,17 @@ use Rattle.answer.specs.Outcome.{Outcome, refused, accepted, choose}
 use Rattle.frame.specs.AesFrame.{aesSize, openedPayload}
 use Rattle.frame.specs.DesFrame.{desSize, desPlain, payloadOf}
 use Rattle.frame.specs.Inverse.{Domain, TooLarge, Frames}
-use Rattle.frame.specs.Padding.{padCount}
+use Rattle.frame.specs.Padding.{pad, padCount}
 use Rattle.frame.specs.Scheme.{byScheme, sealed, sealing, opening, framed, responding, sealedSize, longest}
 use Rattle.frame.proofs.AesTrip.{AesDomain, aes-opens, aes-opens-exactly, aes-refuses-exactly, aes-sealed-long}
 use Rattle.frame.proofs.DesSeals.{size-most}
-use Rattle.frame.proofs.DesTrip.{DesDomain, des-opens, des-opens-exactly, des-refuses-exactly, des-sealed-long}
+use Rattle.frame.proofs.DesTrip.{DesDomain, des-opens-padded, des-opens, des-opens-exactly, des-refuses-exactly, des-sealed-long}
 use Rattle.answer.proofs.Refusals.{refused-number}
+use Rattle.frame.proofs.Pads.{padCount-small, length-pad}
 use Rattle.frame.proofs.Rooms.{des-short-room, des-means-short, aes-short-room, aes-means-short}
+use Rattle.frame.proofs.Schemes.{mark-known}
 use Rattle.frame.proofs.WorkBlocks.{framing-accepted, framing-refused}
-use Rattle.frame.proofs.Sealing.{des-seals, aes-seals, des-seals-16, aes-seals-16}
+use Rattle.frame.proofs.Sealing.{des-seals, aes-seals, des-seals-16, aes-seals-16, des-seals-only, aes-seals-only}
 
 -- ---- from what opens where there is room
 
@@ -214,3 +216,55 @@ module _ (scheme : ℕ) (c id : List ℕ) (code : ℕ) (f : Frames scheme c id c
 pub size-some : (scheme n : ℕ) → 0 < sealedSize scheme n
 unfolding sealedSize desSize aesSize
 size-some scheme n = choose-some (eqb scheme 1) (n + 8 + padCount (n + 8) + 8) (n + 10) (omega arith) (omega arith)
+
+-- ---- whatever was sealed, of whole blocks or not, opens at 0
+
+module _ (c id : List ℕ) (code : ℕ) (bc : Bytes c) (bi : Bytes id) (ho : code < 256) (number room : ℕ) (payload : List ℕ) (hn : number < 65536) (bp : Bytes payload) where
+  des-again : sealing 1 c code number id payload room .number ≡ 0 → opening 1 c code id (sealing 1 c code number id payload room .bytes) 256 .number ≡ 0
+  unfolding sealing opening byScheme choose accepted
+  des-again z =
+      let s = des-seals-only id payload code number room c z in
+      let l : length (pad payload) ≤ 256 = omega (arith, length-pad payload, padCount-small (length payload), s .short) in
+      rw (des-seals id payload code number room c s) (ap (λ (o : Outcome). o .number) (des-opens-padded c id payload code number (s .all) (s .six) bi ho hn (s .short) bp 256 l))
+
+  aes-again : sealing 2 c code number id payload room .number ≡ 0 → opening 2 c code id (sealing 2 c code number id payload room .bytes) 256 .number ≡ 0
+  unfolding sealing opening byScheme choose accepted
+  aes-again z =
+      let s = aes-seals-only id payload code number room c z in
+      let l : length payload ≤ 256 = omega (arith, s .short) in
+      rw (aes-seals id payload code number room c s)
+      (ap (λ (o : Outcome). o .number) (aes-opens c id code 256 (s .all) bc (s .six) bi ho number payload (record { small = hn; short = s .short; bytes = bp }) l))
+
+  known-sealing : (scheme : ℕ) → sealing scheme c code number id payload room .number ≡ 0 → (scheme ≡ 1) ⊎ (scheme ≡ 2)
+  unfolding sealing
+  known-sealing scheme z = mark-known scheme _ _ z
+
+  pub opens-again : (scheme : ℕ) → sealing scheme c code number id payload room .number ≡ 0 → opening scheme c code id (sealing scheme c code number id payload room .bytes) 256 .number ≡ 0
+  opens-again scheme z =
+      ⊎-elim
+      (λ (e : scheme ≡ 1). rw e (des-again (rw e at z)))
+      (λ (e : scheme ≡ 2). rw e (aes-again (rw e at z)))
+      (known-sealing scheme z)
+
+-- what follows the length byte and the code of a response frame opens too
+module _ (scheme : ℕ) (c id : List ℕ) (code number room : ℕ) (payload : List ℕ) (z : responding scheme c code number id payload room .number ≡ 0) where
+  sealed-before : sealing scheme c code number id payload (room - 2) .number ≡ 0
+  unfolding responding
+  sealed-before =
+      let o : Outcome = sealing scheme c code number id payload (room - 2) in
+      ⊎-elim
+      (λ (l : 1 ≤ o .number). ap (λ (p : Outcome). p .number) (sym (framing-refused code o (λ e. omega arith))) ∙ z)
+      (λ (l : o .number < 1). omega arith)
+      (le-or-lt 1 (o .number))
+
+  is-framed : responding scheme c code number id payload room ≡ accepted 0 (framed code (sealing scheme c code number id payload (room - 2) .bytes))
+  unfolding responding
+  is-framed = framing-accepted code _ sealed-before
+
+  pub frame-least : 2 ≤ length (responding scheme c code number id payload room .bytes)
+  unfolding accepted framed
+  frame-least = rw is-framed (omega arith)
+
+  pub frame-opens-again : Bytes c → Bytes id → code < 256 → number < 65536 → Bytes payload → opening scheme c code id (drop 2 (responding scheme c code number id payload room .bytes)) 256 .number ≡ 0
+  unfolding accepted framed
+  frame-opens-again bc bi ho hn bp = rw is-framed (opens-again c id code bc bi ho number (room - 2) payload hn bp scheme sealed-before)

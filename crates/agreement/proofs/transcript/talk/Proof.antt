@@ -3,8 +3,8 @@ use mathlib.Core.List.{List}
 use Prim.Native.Nat.{ℕ, _≤_}
 use native.Mathlib.Omega.{arith}
 use Rattle.frame.specs.Scheme.{opening}
+use Rattle.frame.proofs.Frames.{frame-least}
 use Rattle.agreement.specs.inner.Said.{conversation}
-use Rattle.agreement.proofs.ScratchFrame.{frame-least}
 use Rattle.agreement.proofs.Messages.{command}
 use Rattle.agreement.proofs.Steps.{piece-is, piece-fits, piece-long, after-two, message-refused, reads-always, answer-refused, checks-always, both-said}
 use borrow.Author.Needs.{needs}
