@@ -308,11 +308,11 @@ module _ (s : ℕ) (keys idm x : List ℕ) (bk : Bytes keys) (bi : Bytes idm) (b
       let c = either-false _ _ (b .1) in
       record {
         ends =
-          record {
-            known = known-mark-only s (a .0);
-            keys-are = record { long = is-number _ _ (b .0); bytes = bk };
-            idm-is = record { long = is-number _ 8 (c .0); bytes = bi };
-          };
+            record {
+              known = known-mark-only s (a .0);
+              keys-are = record { long = is-number _ _ (b .0); bytes = bk };
+              idm-is = record { long = is-number _ 8 (c .0); bytes = bi };
+            };
         block = record { long = is-number _ _ (c .1); bytes = bx };
         room-is = f;
       }
