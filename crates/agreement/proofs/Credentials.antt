@@ -1,20 +1,20 @@
 -- The credentials of both ends: made of the random 2 that was read, or of the card's own. Assumes nothing.
 use mathlib.Core.Path.{_≡_, refl, sym, ap, _∙_}
-use mathlib.Core.List.{List, [], _∷_, _++_, append-nil}
+use mathlib.Core.List.{List, _++_, append-nil}
 use mathlib.Core.Logic.{_⊎_, inl, inr, ⊎-elim}
 use Prim.Native.Nat.{ℕ, zero, suc, _≤_}
 use native.Mathlib.Omega.{arith}
 use borrow.Author.Tests.{eq-eqb, ne-eqb}
-use lib.Dec.{eqb, lit≤}
-use lib.ListN.{length, take, drop, replicate, length-append, drop-of-length-le}
+use lib.Dec.{lit≤}
+use lib.ListN.{length, take, drop, length-append, drop-of-length-le}
 use Rattle.cipher.specs.Bytes.{Bytes}
 use Rattle.cipher.proofs.ByteLists.{Block}
 use Rattle.answer.specs.declared.answer.Answer.{Answer}
-use Rattle.answer.specs.Outcome.{Outcome, accepted, choose, over, Meets}
+use Rattle.answer.specs.Outcome.{accepted, choose, over, Meets}
 use Rattle.answer.proofs.Pieces.{copied-next}
-use Rattle.session.specs.Challenge.{blockSize, making2A, reading2A, sessionKeys, derivingSessionKeys}
+use Rattle.session.specs.Challenge.{making2A, sessionKeys, derivingSessionKeys}
 use Rattle.session.proofs.Exchanges as two
-use Rattle.agreement.specs.inner.Said.{pair, exchange2, random2Read, conversation, credentialsOf}
+use Rattle.agreement.specs.inner.Said.{exchange2, random2Read, conversation, credentialsOf}
 use Rattle.agreement.proofs.Messages.{bytes-of, right-2, read-2}
 use Rattle.agreement.proofs.Steps.{pair-zero}
 

@@ -1,7 +1,7 @@
 -- The messages of a transcript: what was made is read, and what was answered is accepted, where both ends hold the same. Assumes nothing.
-use mathlib.Core.Path.{_≡_, refl, sym, ap, _∙_}
+use mathlib.Core.Path.{_≡_, ap, _∙_}
 use mathlib.Core.List.{List, []}
-use Prim.Native.Nat.{ℕ, _≤_, _<_}
+use Prim.Native.Nat.{ℕ, _<_}
 use lib.ListN.{length, drop}
 use Rattle.cipher.specs.Bytes.{Bytes}
 use Rattle.cipher.proofs.ByteLists.{Block}
@@ -10,7 +10,7 @@ use Rattle.answer.specs.Outcome.{Outcome, accepted, Meets}
 use Rattle.answer.proofs.Refusals.{accepted-zero}
 use Rattle.frame.specs.Scheme.{sealing, opening, responding}
 use Rattle.frame.proofs.Frames.{opens-again, frame-opens-again}
-use Rattle.session.specs.Challenge.{blockSize, making1A, reading1A, making1B, checking1B, making2A, reading2A, making2B, checking2B}
+use Rattle.session.specs.Challenge.{making1A, reading1A, making1B, checking1B, making2A, reading2A, making2B, checking2B}
 use Rattle.session.proofs.Exchanges as two
 use Rattle.agreement.proofs.Steps.{Message}
 

@@ -7,7 +7,7 @@ use Rattle.answer.specs.Outcome.{Outcome, refused, choose}
 use Rattle.frame.specs.Scheme.{sealing, responding}
 use Rattle.session.specs.Challenge.{derivingSessionKeys}
 use Rattle.session.specs.Derivation.{Derived, derivation}
-use Rattle.agreement.specs.Agreement.{made1A, read1, made1B, made2A, read2, made2B, credentials}
+use Rattle.agreement.specs.Agreement.{made1A, made1B, made2A, read2, made2B, credentials}
 
 -- the first number that is not 0 refuses; where all are 0, o
 unfoldable pub unless : List ℕ → Outcome → Outcome

@@ -1,11 +1,9 @@
-// A reader and a card, played against each other. What one end makes, the other end reads, checks or opens: a number that is not 0 there
-// would be the answer, and the contracts say that it never is.
+// A reader and a card, played against each other. What one end makes, the other end reads, checks or opens. A number there that is not 0
+// would be the answer; the contracts know no such answer, so it is proved that none comes.
 use answer::Answer;
 ghost use Prim.Native.Nat.{_+_, _≤_};
 ghost use mathlib.Core.Path.{_≡_};
-ghost use mathlib.Core.Bool.{false};
 ghost use mathlib.Core.List.{_++_};
-ghost use lib.Dec.{eqb};
 ghost use lib.ListN.{length};
 ghost use Rattle.answer.specs.Outcome.{Meets, accepted, over};
 ghost use Rattle.session.specs.Challenge.{derivingSessionKeys};
@@ -166,7 +164,7 @@ fn talk(
     joined(&sealed[0..n], &block[0..m], out)
 }
 
-// The AES session keys of a random 2, then Challenge 3C.
+// The AES session keys of a random 2, then Challenge 3C. With these lengths the keys are not refused.
 fn aes_credentials(random_2: &[u8], challenge_3c: &[u8]) -> [u8; 36]
     requires { ⌜ length (now «random_2») ≡ 16 ⌝ }
     requires { ⌜ length (now «challenge_3c») ≡ 4 ⌝ }
@@ -178,8 +176,8 @@ fn aes_credentials(random_2: &[u8], challenge_3c: &[u8]) -> [u8; 36]
     credentials
 }
 
-// A conversation with the credentials of the scheme: the session key for DES; for AES session keys, the reader's of the random 2 that it read,
-// the card's of its own.
+// A conversation with the credentials of the scheme. For DES both ends have the session key. For AES the reader makes its session keys from
+// the random 2 that it read, and the card from its own.
 fn converse(
     scheme: u8,
     code: u8,
