@@ -16,7 +16,7 @@ use Rattle.session.specs.Challenge.{making2A, sessionKeys, derivingSessionKeys}
 use Rattle.session.proofs.Exchanges as two
 use Rattle.agreement.specs.inner.Said.{exchange2, random2Read, conversation, credentialsOf}
 use Rattle.agreement.proofs.Messages.{bytes-of, right-2, read-2}
-use Rattle.agreement.proofs.Steps.{pair-zero}
+use Rattle.agreement.proofs.MessagePairs.{pair-zero}
 
 -- what was written over all of an output is the output
 over-all : (b o : List ℕ) → length b ≡ length o → over b o ≡ b

@@ -12,7 +12,7 @@ use Rattle.frame.specs.Scheme.{sealing, opening, responding}
 use Rattle.frame.proofs.Frames.{opens-again, frame-opens-again}
 use Rattle.session.specs.Challenge.{making1A, reading1A, making1B, checking1B, making2A, reading2A, making2B, checking2B}
 use Rattle.session.proofs.Exchanges as two
-use Rattle.agreement.proofs.Steps.{Message}
+use Rattle.agreement.proofs.MessagePairs.{Message}
 
 zero-of : (o : Outcome) (b : List ℕ) → o ≡ accepted 0 b → o .number ≡ 0
 zero-of o b e = ap (λ (p : Outcome). p .number) e ∙ accepted-zero 0 b

@@ -1,7 +1,7 @@
 use native.Mathlib.Omega.{arith}
 use Rattle.agreement.specs.inner.Said.{exchange1}
 use Rattle.agreement.proofs.Messages.{message-1}
-use Rattle.agreement.proofs.Steps.{piece-is, piece-fits, piece-long, message-refused, reads-always, answer-refused, checks-always, both-said}
+use Rattle.agreement.proofs.MessagePairs.{piece-is, piece-fits, piece-long, message-refused, reads-always, answer-refused, checks-always, both-said}
 use borrow.Author.Needs.{needs}
 use Rattle.agreement.proofs.transcript.exchange_1.Statement.{statement}
 use Rattle.agreement.proofs.transcript.exchange_1.Tie as tie

@@ -6,7 +6,7 @@ use Rattle.answer.specs.Outcome.{over}
 use Rattle.session.specs.Challenge.{reading2A}
 use Rattle.agreement.specs.inner.Said.{exchange2, random2Read}
 use Rattle.agreement.proofs.Messages.{message-2, read-16}
-use Rattle.agreement.proofs.Steps.{piece-is, piece-fits, piece-long, message-refused, reads-always, answer-refused, checks-always, both-said}
+use Rattle.agreement.proofs.MessagePairs.{piece-is, piece-fits, piece-long, message-refused, reads-always, answer-refused, checks-always, both-said}
 use borrow.Author.Needs.{needs}
 use Rattle.agreement.proofs.transcript.exchange_2.Statement.{statement}
 use Rattle.agreement.proofs.transcript.exchange_2.Tie as tie

@@ -1,4 +1,4 @@
-use Rattle.agreement.proofs.Steps.{copied-both}
+use Rattle.agreement.proofs.MessagePairs.{copied-both}
 use borrow.Author.Needs.{needs}
 use Rattle.agreement.proofs.transcript.joined.Statement.{statement}
 use Rattle.agreement.proofs.transcript.joined.Tie as tie

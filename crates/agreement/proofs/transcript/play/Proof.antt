@@ -1,7 +1,7 @@
 use mathlib.Core.Path.{sym, _∙_}
 use native.Mathlib.Omega.{arith}
 use lib.ListN.{length}
-use Rattle.agreement.proofs.Speaking.{keys-are, keys-fit, derivation-refused, played}
+use Rattle.agreement.proofs.WholeTranscript.{keys-are, keys-fit, derivation-refused, played}
 use borrow.Author.Needs.{needs}
 use Rattle.agreement.proofs.transcript.play.Statement.{statement}
 use Rattle.agreement.proofs.transcript.play.Tie as tie

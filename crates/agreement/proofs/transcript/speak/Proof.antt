@@ -3,8 +3,8 @@ use native.Mathlib.Omega.{arith}
 use lib.ListN.{length, replicate}
 use Rattle.agreement.specs.inner.Said.{exchange1, exchange2}
 use Rattle.agreement.proofs.Credentials.{conversed, lengths, handed, handed-credentials}
-use Rattle.agreement.proofs.Speaking.{E3, say-first, say-second, say-third, say-all, stopped, went-on, delivered}
-use Rattle.agreement.proofs.Tape.{fits-1, whole-1, part-2, fits-2, whole-2, part-3, fits-3, whole-3, three, three-short}
+use Rattle.agreement.proofs.WholeTranscript.{E3, say-first, say-second, say-third, say-all, stopped, went-on, delivered}
+use Rattle.agreement.proofs.PiecewiseOutput.{fits-1, whole-1, part-2, fits-2, whole-2, part-3, fits-3, whole-3, three, three-short}
 use borrow.Author.Needs.{needs}
 use Rattle.agreement.proofs.transcript.speak.Statement.{statement}
 use Rattle.agreement.proofs.transcript.speak.Tie as tie

@@ -6,7 +6,7 @@ use Rattle.frame.specs.Scheme.{opening}
 use Rattle.frame.proofs.Frames.{frame-least}
 use Rattle.agreement.specs.inner.Said.{conversation}
 use Rattle.agreement.proofs.Messages.{command}
-use Rattle.agreement.proofs.Steps.{piece-is, piece-fits, piece-long, after-two, message-refused, reads-always, answer-refused, checks-always, both-said}
+use Rattle.agreement.proofs.MessagePairs.{piece-is, piece-fits, piece-long, after-two, message-refused, reads-always, answer-refused, checks-always, both-said}
 use borrow.Author.Needs.{needs}
 use Rattle.agreement.proofs.transcript.talk.Statement.{statement}
 use Rattle.agreement.proofs.transcript.talk.Tie as tie
