@@ -14,7 +14,8 @@ use Rattle.session.specs.Challenge.{making1A, reading1A, making1B, checking1B, 
 use Rattle.session.proofs.Exchanges as two
 use Rattle.agreement.proofs.MessagePairs.{Message}
 
-zero-of : (o : Outcome) (b : List ℕ) → o ≡ accepted 0 b → o .number ≡ 0
+-- number and bytes of an acceptance
+pub zero-of : (o : Outcome) (b : List ℕ) → o ≡ accepted 0 b → o .number ≡ 0
 zero-of o b e = ap (λ (p : Outcome). p .number) e ∙ accepted-zero 0 b
 
 pub bytes-of : (o : Outcome) (b : List ℕ) → o ≡ accepted 0 b → o .bytes ≡ b

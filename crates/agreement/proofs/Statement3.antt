@@ -13,20 +13,13 @@ use Rattle.frame.specs.Inverse.{Domain, Frames}
 use Rattle.answer.specs.Outcome.{Outcome, accepted, choose}
 use Rattle.frame.specs.Scheme.{sealed, sealing, framed, responding, sealedSize}
 use Rattle.frame.proofs.Frames.{frames, responds, responds-not, size-some}
-use Rattle.answer.proofs.Refusals.{accepted-zero, refused-number}
+use Rattle.answer.proofs.Refusals.{refused-number}
 use Rattle.agreement.specs.Agreement.{Fits, Fixed, Inputs, made1A, read1, made2A, read2, made1B, made2B, credentials, End, reader, card, Agreement, Statement3}
 use Rattle.session.specs.Challenge.{blockSize, underAlpha, underBeta, checking1B, checking2B, sessionKeys, derivingSessionKeys}
 use Rattle.session.specs.Derivation.{Derived, derivation}
 use Rattle.session.proofs.AcceptedDerivation.{Given, derivation-gives, same-derivation}
 use Rattle.session.proofs.Exchanges as two
-
--- the number of an acceptance
-zero-of : (o : Outcome) (b : List ℕ) → o ≡ accepted 0 b → o .number ≡ 0
-zero-of o b e = ap (λ (p : Outcome). p .number) e ∙ accepted-zero 0 b
-
-bytes-of : (o : Outcome) (b : List ℕ) → o ≡ accepted 0 b → o .bytes ≡ b
-unfolding accepted
-bytes-of o b e = ap (λ (p : Outcome). p .bytes) e
+use Rattle.agreement.proofs.Messages.{zero-of, bytes-of}
 
 fixed-block : (n : ℕ) (l : List ℕ) → Fixed n l → Block n l
 fixed-block n l f = record { long = f .0; bytes = f .1 }
