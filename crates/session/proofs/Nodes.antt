@@ -1,6 +1,7 @@
 -- The search for a node in a list of nodes. Assumes nothing.
 use mathlib.Core.Path.{_≡_, refl, sym, ap, ap₂, _∙_}
-use mathlib.Core.List.{List}
+use mathlib.Core.Bool.{Bool, true, false}
+use mathlib.Core.List.{List, [], _∷_}
 use Prim.Native.Nat.{ℕ, zero, suc, _+_, _-_, _*_, _/_, _≤_, _<_}
 use native.Mathlib.Nat.{add-zero, zero-add, sub-zero}
 use native.Mathlib.Omega.{arith}
@@ -10,6 +11,7 @@ use lib.ListN.{length, take, drop, getD}
 use lib.Seq.{getD-drop, drop-drop, length-take-le}
 use Rattle.answer.specs.Number.{numberOf}
 use Rattle.answer.specs.Outcome.{choose}
+use Rattle.session.proofs.NodeLists.{length-first-nodes}
 use Rattle.session.specs.Entries.{firstNodes, nodes}
 use Rattle.session.specs.Session.{firstPlace, indexIn}
 
@@ -17,11 +19,6 @@ use Rattle.session.specs.Session.{firstPlace, indexIn}
 pub number-at : (l : List ℕ) (at r : ℕ) → r ≡ getD l at 0 + getD l (at + 1) 0 * 256 → r ≡ numberOf (drop at l)
 number-at l at r e =
     e ∙ sym (ap₂ (λ (x y : ℕ). x + y * 256) (getD-drop at l 0 0 ∙ ap (λ (k : ℕ). getD l k 0) (add-zero at)) (getD-drop at l 1 0))
-
-pub length-firstNodes : (n : ℕ) (l : List ℕ) → length (firstNodes n l) ≡ n
-unfolding firstNodes
-length-firstNodes zero l = refl
-length-firstNodes (suc n) l = ap suc (length-firstNodes n (drop 2 l))
 
 -- ---- the loop: i nodes were looked at
 
@@ -60,26 +57,60 @@ module _ (l : List ℕ) (node : ℕ) where
       let q : firstPlace (firstNodes (length l / 2 - i) (drop (i * 2) l)) node ≡ 0 = rw z in
       omega (arith, h, q, e)
 
--- ---- the index
+-- ---- the index: the search goes through the whole list, and count says how many nodes of it are listed
 
-module _ (l : List ℕ) (count node r : ℕ) (is : r ≡ firstPlace (nodes (take (count * 2 - 0) l)) node) (long : count * 2 ≤ length l) where
-  place-is : r ≡ firstPlace (nodes (take (count * 2) l)) node
-  place-is = is ∙ rw (sub-zero (count * 2))
+-- the first nodes of a list are those of its front
+front-nodes : (k : ℕ) (l : List ℕ) → k * 2 ≤ length l → firstNodes k (take (k * 2) l) ≡ firstNodes k l
+unfolding firstNodes
+front-nodes zero l h = refl
+front-nodes (suc k) [] h = absurd (omega (arith, h))
+front-nodes (suc k) (x ∷ []) h = absurd (omega (arith, h))
+front-nodes (suc k) (x ∷ y ∷ l) h =
+    let e : suc k * 2 ≡ suc (suc (k * 2)) = omega arith in
+    rw e (ap (_∷_ (x + y * 256)) (front-nodes k l (omega (arith, h))))
 
-  count-is : length (nodes (take (count * 2) l)) ≡ count
+step-among : (b : Bool) (p q k : ℕ) → (q < k → p ≡ q) → choose b 0 (suc q) < suc k → choose b 0 (suc p) ≡ choose b 0 (suc q)
+unfolding choose
+step-among true p q k f h = refl
+step-among false p q k f h = ap suc (f (omega (arith, h)))
+
+step-beyond : (b : Bool) (p q k : ℕ) → (k ≤ q → p ≡ k) → suc k ≤ choose b 0 (suc q) → choose b 0 (suc p) ≡ suc k
+unfolding choose
+step-beyond true p q k f h = absurd (omega (arith, h))
+step-beyond false p q k f h = ap suc (f (omega (arith, h)))
+
+-- a first place among n nodes that is one of the first k is their first place; another is none of theirs
+place-among : (n k : ℕ) (l : List ℕ) (node : ℕ) → k ≤ n → firstPlace (firstNodes n l) node < k → firstPlace (firstNodes k l) node ≡ firstPlace (firstNodes n l) node
+unfolding firstNodes firstPlace
+place-among n zero l node m h = absurd (omega (arith, h))
+place-among zero (suc k) l node m h = absurd (omega (arith, m))
+place-among (suc n) (suc k) l node m h = step-among (eqb (numberOf l) node) _ _ k (place-among n k (drop 2 l) node (omega (arith, m))) h
+
+place-beyond : (n k : ℕ) (l : List ℕ) (node : ℕ) → k ≤ n → k ≤ firstPlace (firstNodes n l) node → firstPlace (firstNodes k l) node ≡ k
+unfolding firstNodes firstPlace
+place-beyond n zero l node m h = refl
+place-beyond zero (suc k) l node m h = absurd (omega (arith, m))
+place-beyond (suc n) (suc k) l node m h = step-beyond (eqb (numberOf l) node) _ _ k (place-beyond n k (drop 2 l) node (omega (arith, m))) h
+
+module _ (l : List ℕ) (count node r : ℕ) (is : r ≡ firstPlace (nodes l) node) (long : count * 2 ≤ length l) where
+  listed : nodes (take (count * 2) l) ≡ firstNodes count l
   unfolding nodes
-  count-is =
+  listed =
       let e : length (take (count * 2) l) ≡ count * 2 = length-take-le (count * 2) l long in
-      length-firstNodes _ _ ∙ omega (arith, e)
+      let n : length (take (count * 2) l) / 2 ≡ count = omega (arith, e) in
+      ap (λ (k : ℕ). firstNodes k (take (count * 2) l)) n ∙ front-nodes count l long
 
   pub index-found : r < count → r ≡ indexIn (nodes (take (count * 2) l)) node
-  unfolding indexIn choose
+  unfolding indexIn choose nodes
   index-found h =
-      let k : firstPlace (nodes (take (count * 2) l)) node < length (nodes (take (count * 2) l)) = omega (arith, place-is, count-is, h) in
-      place-is ∙ rw (lt-ltb _ _ k)
+      let p : firstPlace (firstNodes count l) node ≡ firstPlace (firstNodes (length l / 2) l) node =
+      place-among (length l / 2) count l node (omega (arith, long)) (omega (arith, is, h)) in
+      let k : firstPlace (firstNodes count l) node < length (firstNodes count l) = rw (length-first-nodes count l) (omega (arith, is, p, h)) in
+      is ∙ rw (listed, lt-ltb _ _ k) (sym p)
 
   pub index-missing : count ≤ r → 64 ≡ indexIn (nodes (take (count * 2) l)) node
-  unfolding indexIn choose
+  unfolding indexIn choose nodes
   index-missing h =
-      let k : length (nodes (take (count * 2) l)) ≤ firstPlace (nodes (take (count * 2) l)) node = omega (arith, place-is, count-is, h) in
-      rw (le-ltb _ _ k)
+      let p : firstPlace (firstNodes count l) node ≡ count = place-beyond (length l / 2) count l node (omega (arith, long)) (omega (arith, is, h)) in
+      let k : length (firstNodes count l) ≤ firstPlace (firstNodes count l) node = rw (length-first-nodes count l) (omega (arith, p)) in
+      rw (listed, le-ltb _ _ k)

@@ -165,13 +165,13 @@ fn first_place(nodes: &[u8], node: u16) -> usize
     n
 }
 
-// The first place of a node in a list of count nodes; 64 where it is not listed.
+// The first place of a node among the first count nodes of a list; 64 where it is not listed. The search goes through the whole list: with a
+// fixed length it is faster.
 fn index_of(list: [u8; 128], count: usize, node: u16) -> u16
     requires { ⌜ count ≤ 64 ⌝ }
     ensures { λ r. ⌜ r ≡ indexIn (nodeList (take (count * 2) list)) node ⌝ }
 {
-    let end = count * 2;
-    let place = first_place(&list[0..end], node);
+    let place = first_place(&list, node);
     if place < count {
         return place as u16;
     }
