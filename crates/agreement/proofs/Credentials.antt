@@ -74,14 +74,20 @@ module _ (s : ℕ) (reader card idm c3 x : List ℕ) (bk : Bytes card) (bi : Byt
   read-is = rw same (bytes-of _ _ (read-2 s card idm c3 x bk bi b3 bx made))
 
   -- for AES, random 2 has 16 bytes and Challenge 3C 4
-  pub lengths : (s ≡ 1 → ⊥) → (length x ≡ 16) × (length c3 ≡ 4)
+  lengths : (s ≡ 1 → ⊥) → (length x ≡ 16) × (length c3 ≡ 4)
   lengths h =
       let g = right-2 s card idm c3 x bk bi b3 bx made in
       let aes : s ≡ 2 = ⊎-elim (λ (e : s ≡ 1). absurd (h e)) (λ (e : s ≡ 2). e) (g .0 .ends .known) in
       (g .0 .block .long ∙ two.size-of-aes s aes, g .1 .long)
 
-  pub handed : (w o : List ℕ) → length o ≡ 16 → w ≡ over (random2Read s reader card idm c3 x) o → (s ≡ 1 → ⊥) → w ≡ x
-  handed w o l e h = e ∙ ap (λ (b : List ℕ). over b o) read-is ∙ over-all x o (lengths h .0 ∙ sym l)
+  -- w, where the random 2 that was read stands
+  module _ (w o : List ℕ) (l : length o ≡ 16) (e : w ≡ over (random2Read s reader card idm c3 x) o) where
+    pub handed : (s ≡ 1 → ⊥) → (w ≡ x) × (length x ≡ 16) × (length c3 ≡ 4)
+    handed h = (e ∙ ap (λ (b : List ℕ). over b o) read-is ∙ over-all x o (lengths h .0 ∙ sym l), lengths h .0, lengths h .1)
 
-  pub handed-credentials : (key w o : List ℕ) → length o ≡ 16 → w ≡ over (random2Read s reader card idm c3 x) o → credentialsOf s key w c3 ≡ credentialsOf s key (random2Read s reader card idm c3 x) c3
-  handed-credentials key w o l e = of-any s key w c3 (random2Read s reader card idm c3 x) (λ h. handed w o l e h ∙ sym read-is)
+    handed-credentials : (key : List ℕ) → credentialsOf s key w c3 ≡ credentialsOf s key (random2Read s reader card idm c3 x) c3
+    handed-credentials key = of-any s key w c3 (random2Read s reader card idm c3 x) (λ h. handed h .0 ∙ sym read-is)
+
+    pub handed-conversation : (code number : ℕ) (id key payload : List ℕ) → conversation s code number id (credentialsOf s key w c3) (credentialsOf s key x c3) payload
+        ≡ conversation s code number id (credentialsOf s key (random2Read s reader card idm c3 x) c3) (credentialsOf s key x c3) payload
+    handed-conversation code number id key payload = ap (λ (k : List ℕ). conversation s code number id k (credentialsOf s key x c3) payload) (handed-credentials key)

@@ -30,11 +30,22 @@ module _ (o : Outcome) (r : Answer) (z w : List ℕ) (m : Meets o r z w) where
       let n : r .length - 0 ≡ r .length = omega arith in
       ap (λ (k : ℕ). take k w) n ∙ front (o .bytes) z w (r .length) (sym (m .length-is)) (m .output)
 
-  pub piece-fits : length w ≡ length z → r .length ≤ length z
-  piece-fits l = let f = fits-front (o .bytes) z w (m .output) l in omega (arith, m .length-is, f)
+  pub piece-least : (k : ℕ) → k ≤ length (o .bytes) → k ≤ r .length
+  piece-least k h = omega (arith, m .length-is)
 
-  pub piece-long : length (piece r w) ≡ r .length
-  piece-long = ap length piece-is ∙ sym (m .length-is)
+  module _ (l : length w ≡ length z) where
+    pub piece-room : r .length ≤ length z
+    piece-room = let f = fits-front (o .bytes) z w (m .output) l in omega (arith, m .length-is, f)
+
+    pub piece-end : r .length ≤ length w
+    piece-end = omega (arith, piece-room, l)
+
+    pub piece-fits : length (piece r w) ≤ length z
+    piece-fits = let n = ap length piece-is ∙ sym (m .length-is) in omega (arith, n, piece-room)
+
+-- two pieces of at most k bytes, for an output of two times k
+pub two-fit : (x y out : List ℕ) (k : ℕ) → length x ≤ k → length y ≤ k → length out ≡ k + k → k + k ≤ 65535 → (length x + length y ≤ length out) × (length out ≤ 65535)
+two-fit x y out k f g h l = (omega arith, omega arith)
 
 -- what follows the first two bytes of a piece, as `&w[2..n]` has it
 take-none : (m : ℕ) → take {A = ℕ} m [] ≡ []
@@ -109,30 +120,30 @@ module _ (t : Message) where
   Said = pair (t .A) answered
 
   -- the message was refused
-  pub message-refused : (r1 r : Answer) (z w out : List ℕ) → Meets (t .A) r1 z w → (r1 .number ≡ 0 → ⊥) → Refused (r1 .number) r → Meets Said r out out
-  message-refused r1 r z w out m h f = refusal Said _ r out (pair-first (t .A) answered (λ e. h (m .number ∙ e)) ∙ ap refused (sym (m .number))) f
+  pub message-refused : (n : ℕ) (r : Answer) (out : List ℕ) → n ≡ t .A .number → (n ≡ 0 → ⊥) → Refused n r → Meets Said r out out
+  message-refused n r out m h f = refusal Said n r out (pair-first (t .A) answered (λ e. h (m ∙ e)) ∙ ap refused (sym m)) f
 
   -- it was accepted, and x, its bytes, read
-  module _ (r1 r2 : Answer) (z1 w1 x z2 w2 : List ℕ) (m1 : Meets (t .A) r1 z1 w1) (ok : r1 .number ≡ 0) (is : x ≡ t .A .bytes) (m2 : Meets (t .R x) r2 z2 w2) where
+  module _ (n1 : ℕ) (x : List ℕ) (m1 : n1 ≡ t .A .number) (ok : n1 ≡ 0) (is : x ≡ t .A .bytes) where
     made : t .A .number ≡ 0
-    made = sym (m1 .number) ∙ ok
+    made = sym m1 ∙ ok
 
-    pub reads-always : {T : Type 0} → (r2 .number ≡ 0 → ⊥) → T
-    reads-always h = absurd (h (m2 .number ∙ ap (λ (d : List ℕ). t .R d .number) is ∙ t .reads made))
+    pub reads-always : {T : Type 0} (k : ℕ) → k ≡ t .R x .number → (k ≡ 0 → ⊥) → T
+    reads-always k e h = absurd (h (e ∙ ap (λ (d : List ℕ). t .R d .number) is ∙ t .reads made))
 
     -- y, what was read, was answered
-    module _ (r3 : Answer) (y z3 w3 : List ℕ) (is′ : y ≡ t .R x .bytes) (m3 : Meets (t .B y) r3 z3 w3) where
+    module _ (n3 : ℕ) (y : List ℕ) (is′ : y ≡ t .R x .bytes) (m3 : n3 ≡ t .B y .number) where
       answer-is : t .B y ≡ answered
       answer-is = ap (t .B) (is′ ∙ ap (λ (d : List ℕ). t .R d .bytes) is)
 
-      number-is : r3 .number ≡ answered .number
-      number-is = m3 .number ∙ ap (λ (o : Outcome). o .number) answer-is
+      number-is : n3 ≡ answered .number
+      number-is = m3 ∙ ap (λ (o : Outcome). o .number) answer-is
 
-      pub answer-refused : (r : Answer) (out : List ℕ) → (r3 .number ≡ 0 → ⊥) → Refused (r3 .number) r → Meets Said r out out
-      answer-refused r out h f = refusal Said _ r out (pair-second (t .A) answered made (λ q. h (number-is ∙ q)) ∙ ap refused (sym number-is)) f
+      pub answer-refused : (r : Answer) (out : List ℕ) → (n3 ≡ 0 → ⊥) → Refused n3 r → Meets Said r out out
+      answer-refused r out h f = refusal Said n3 r out (pair-second (t .A) answered made (λ q. h (number-is ∙ q)) ∙ ap refused (sym number-is)) f
 
       -- the answer was accepted, and v, its bytes, checked
-      module _ (ok′ : r3 .number ≡ 0) (v : List ℕ) (is″ : v ≡ t .B y .bytes) where
+      module _ (ok′ : n3 ≡ 0) (v : List ℕ) (is″ : v ≡ t .B y .bytes) where
         bytes-are : v ≡ answered .bytes
         bytes-are = is″ ∙ ap (λ (o : Outcome). o .bytes) answer-is
 

@@ -53,14 +53,15 @@ module _ (o : List ℕ) (large : length o ≡ 576) (p1 : Outcome) (r1 : Answer) 
   abbrev s1 : List ℕ
   s1 = take 0 o ++ (l1 ++ drop 32 (drop 0 o))
 
-  pub fits-1 : r1 .length ≤ 32
+  fits-1 : r1 .length ≤ 32
   fits-1 = next-fits [] o o 0 (nothing o) 32 (omega arith) p1 r1 l1 m1 k1
 
   w1 : Written (p1 .bytes) o s1 (r1 .length)
   w1 = next [] o o 0 (nothing o) 32 (omega arith) p1 r1 l1 m1 k1 (r1 .length) (omega arith)
 
-  pub whole-1 : length s1 ≡ 576
-  whole-1 = whole (p1 .bytes) o s1 (r1 .length) w1 ∙ large
+  -- `&mut s1[n..n + 32]`
+  pub end-2 : r1 .length + 32 ≤ length s1
+  end-2 = omega (arith, fits-1, whole (p1 .bytes) o s1 (r1 .length) w1 ∙ large)
 
   pub part-2 : length (take (r1 .length + 32 - r1 .length) (drop (r1 .length) s1)) ≡ 32
   part-2 = part-long (p1 .bytes) o s1 (r1 .length) w1 32 (omega (arith, fits-1))
@@ -73,14 +74,21 @@ module _ (o : List ℕ) (large : length o ≡ 576) (p1 : Outcome) (r1 : Answer) 
     abbrev s2 : List ℕ
     s2 = take (r1 .length) s1 ++ (l2 ++ drop (r1 .length + 32 - r1 .length) (drop (r1 .length) s1))
 
+    pub short-2 : r2 .length ≤ 32
+    short-2 = next-fits (p1 .bytes) o s1 (r1 .length) w1 32 (omega (arith, fits-1)) p2 r2 l2 m2 k2
+
     pub fits-2 : n2 ≤ 64
-    fits-2 = omega (arith, fits-1, next-fits (p1 .bytes) o s1 (r1 .length) w1 32 (omega (arith, fits-1)) p2 r2 l2 m2 k2)
+    fits-2 = omega (arith, fits-1, short-2)
+
+    pub room-3 : n2 + 512 ≤ 576
+    room-3 = omega (arith, fits-2)
 
     w2 : Written (p1 .bytes ++ p2 .bytes) o s2 n2
     w2 = next (p1 .bytes) o s1 (r1 .length) w1 32 (omega (arith, fits-1)) p2 r2 l2 m2 k2 n2 refl
 
-    pub whole-2 : length s2 ≡ 576
-    whole-2 = whole (p1 .bytes ++ p2 .bytes) o s2 n2 w2 ∙ large
+    -- `&mut s2[n2..n2 + 512]`
+    pub end-3 : n2 + 512 ≤ length s2
+    end-3 = omega (arith, fits-2, whole (p1 .bytes ++ p2 .bytes) o s2 n2 w2 ∙ large)
 
     pub part-3 : length (take (n2 + 512 - n2) (drop n2 s2)) ≡ 512
     part-3 = part-long (p1 .bytes ++ p2 .bytes) o s2 n2 w2 512 (omega (arith, fits-2))
@@ -92,14 +100,18 @@ module _ (o : List ℕ) (large : length o ≡ 576) (p1 : Outcome) (r1 : Answer) 
       abbrev s3 : List ℕ
       s3 = take n2 s2 ++ (l3 ++ drop (n2 + 512 - n2) (drop n2 s2))
 
+      pub short-3 : r3 .length ≤ 512
+      short-3 = next-fits (p1 .bytes ++ p2 .bytes) o s2 n2 w2 512 (omega (arith, fits-2)) p3 r3 l3 m3 k3
+
       pub fits-3 : n3 ≤ 576
-      fits-3 = omega (arith, fits-2, next-fits (p1 .bytes ++ p2 .bytes) o s2 n2 w2 512 (omega (arith, fits-2)) p3 r3 l3 m3 k3)
+      fits-3 = omega (arith, fits-2, short-3)
 
       w3 : Written ((p1 .bytes ++ p2 .bytes) ++ p3 .bytes) o s3 n3
       w3 = next (p1 .bytes ++ p2 .bytes) o s2 n2 w2 512 (omega (arith, fits-2)) p3 r3 l3 m3 k3 n3 refl
 
-      pub whole-3 : length s3 ≡ 576
-      whole-3 = whole ((p1 .bytes ++ p2 .bytes) ++ p3 .bytes) o s3 n3 w3 ∙ large
+      -- `&s3[0..n3]`
+      pub end-all : n3 ≤ length s3
+      end-all = omega (arith, fits-3, whole ((p1 .bytes ++ p2 .bytes) ++ p3 .bytes) o s3 n3 w3 ∙ large)
 
       -- what stands there in the end
       pub three : take (n3 - 0) (drop 0 s3) ≡ (p1 .bytes ++ p2 .bytes) ++ p3 .bytes

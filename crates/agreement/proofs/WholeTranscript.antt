@@ -87,6 +87,14 @@ module _ (a b c d e f : Outcome) (room : ℕ) where
 
 -- ---- what two ends say
 
+-- a refusal by a pair's number
+stopped : (o p : Outcome) (n : ℕ) (r : Answer) (out : List ℕ) → ((p .number ≡ 0 → ⊥) → o ≡ refused (p .number)) → n ≡ p .number → (n ≡ 0 → ⊥) → Refused n r → Meets o r out out
+stopped o p n r out s m h f = rw (s (λ e. h (m ∙ e)) ∙ ap refused (sym m)) (refused-meets n r out f)
+
+-- it was accepted
+pub went-on : (p : Outcome) (n : ℕ) → n ≡ p .number → n ≡ 0 → p .number ≡ 0
+went-on p n m e = sym m ∙ e
+
 module _ (s : ℕ) (reader card idm c3 random1 random2 : List ℕ) (code number : ℕ) (id key payload : List ℕ) (room : ℕ) where
   abbrev Spoken : Outcome
   Spoken = saying (holding s reader) (holding s card) idm c3 random1 random2 code number id key payload room
@@ -118,32 +126,38 @@ module _ (s : ℕ) (reader card idm c3 random1 random2 : List ℕ) (code number 
   abbrev f : Outcome
   f = saidResponse (holding s reader) (holding s card) idm c3 random1 random2 code number id key payload
 
-  pub say-first : (E1 .number ≡ 0 → ⊥) → Spoken ≡ refused (E1 .number)
+  say-first : (E1 .number ≡ 0 → ⊥) → Spoken ≡ refused (E1 .number)
   unfolding saying exchange1
   say-first = first-stops a b c d e f room
 
-  pub say-second : E1 .number ≡ 0 → (E2 .number ≡ 0 → ⊥) → Spoken ≡ refused (E2 .number)
-  unfolding saying exchange1 exchange2 random2Read
-  say-second = second-stops a b c d e f room
+  pub first-refused : (n : ℕ) (r : Answer) (out : List ℕ) → n ≡ E1 .number → (n ≡ 0 → ⊥) → Refused n r → Meets Spoken r out out
+  first-refused n r out = stopped Spoken E1 n r out say-first
 
-  pub say-third : E1 .number ≡ 0 → E2 .number ≡ 0 → (E3 .number ≡ 0 → ⊥) → Spoken ≡ refused (E3 .number)
-  unfolding saying exchange1 exchange2 conversation credentialsOf random2Read
-  say-third = third-stops a b c d e f room
+  module _ (z1 : E1 .number ≡ 0) where
+    say-second : (E2 .number ≡ 0 → ⊥) → Spoken ≡ refused (E2 .number)
+    unfolding saying exchange1 exchange2 random2Read
+    say-second = second-stops a b c d e f room z1
 
-  pub say-all : E1 .number ≡ 0 → E2 .number ≡ 0 → E3 .number ≡ 0 → (said : List ℕ) → said ≡ (E1 .bytes ++ E2 .bytes) ++ E3 .bytes → Spoken ≡ delivering 0 said room
-  unfolding saying exchange1 exchange2 conversation credentialsOf random2Read
-  say-all = all-said a b c d e f room
+    pub second-refused : (n : ℕ) (r : Answer) (out : List ℕ) → n ≡ E2 .number → (n ≡ 0 → ⊥) → Refused n r → Meets Spoken r out out
+    second-refused n r out = stopped Spoken E2 n r out say-second
 
--- a refusal by a pair's number
-pub stopped : (o p : Outcome) (r1 r : Answer) (z w out : List ℕ) → Meets p r1 z w → (r1 .number ≡ 0 → ⊥) → Refused (r1 .number) r → ((p .number ≡ 0 → ⊥) → o ≡ refused (p .number)) → Meets o r out out
-stopped o p r1 r z w out m h f s = rw (s (λ e. h (m .number ∙ e)) ∙ ap refused (sym (m .number))) (refused-meets (r1 .number) r out f)
+    module _ (z2 : E2 .number ≡ 0) where
+      say-third : (E3 .number ≡ 0 → ⊥) → Spoken ≡ refused (E3 .number)
+      unfolding saying exchange1 exchange2 conversation credentialsOf random2Read
+      say-third = third-stops a b c d e f room z1 z2
 
--- it was accepted
-pub went-on : (p : Outcome) (r : Answer) (z w : List ℕ) → Meets p r z w → r .number ≡ 0 → p .number ≡ 0
-went-on p r z w m e = sym (m .number) ∙ e
+      pub third-refused : (n : ℕ) (r : Answer) (out : List ℕ) → n ≡ E3 .number → (n ≡ 0 → ⊥) → Refused n r → Meets Spoken r out out
+      third-refused n r out = stopped Spoken E3 n r out say-third
 
-pub delivered : (o : Outcome) (said : List ℕ) (r : Answer) (before after : List ℕ) → o ≡ delivering 0 said (length before) → Meets (delivering 0 said (length before)) r before after → Meets o r before after
-delivered o said r before after e m = rw e m
+      say-all : E3 .number ≡ 0 → (said : List ℕ) → said ≡ (E1 .bytes ++ E2 .bytes) ++ E3 .bytes → Spoken ≡ delivering 0 said room
+      unfolding saying exchange1 exchange2 conversation credentialsOf random2Read
+      say-all = all-said a b c d e f room z1 z2
+
+      -- p, the third pair as the ends had it, was accepted, and said, the bytes of the pairs, delivered
+      pub delivered : (p : Outcome) → p ≡ E3 → p .number ≡ 0 → (said : List ℕ) → said ≡ (E1 .bytes ++ E2 .bytes) ++ p .bytes → (r : Answer) (before after : List ℕ)
+          → Meets (delivering 0 said room) r before after → Meets Spoken r before after
+      delivered p is z said q r before after m =
+          rw (say-all (ap (λ (o : Outcome). o .number) (sym is) ∙ z) said (q ∙ ap (λ (o : Outcome). (E1 .bytes ++ E2 .bytes) ++ o .bytes) is)) m
 
 -- ---- the derivations
 
@@ -154,8 +168,12 @@ module _ (d : Derived) (r : DerivedAuthKeys) (z w : List ℕ) (m : Derives d r z
       let n : r .answer .length - 0 ≡ r .answer .length = omega arith in
       ap (λ (k : ℕ). take k w) n ∙ front (d .bytes) z w (r .answer .length) (sym (m .length-is)) (m .output)
 
-  pub keys-fit : length w ≡ length z → r .answer .length ≤ length z
-  keys-fit l = let f = fits-front (d .bytes) z w (m .output) l in omega (arith, m .length-is, f)
+  pub keys-end : length w ≡ length z → r .answer .length ≤ length w
+  keys-end l = let f = fits-front (d .bytes) z w (m .output) l in omega (arith, m .length-is, f)
+
+-- both ends have the same
+pub same-keys : (d : Derived) (x y : List ℕ) → x ≡ d .bytes → y ≡ d .bytes → x ≡ y
+same-keys d x y p q = p ∙ sym q
 
 module _ (mark : ℕ) (keys areas services individual idm c3 random1 random2 : List ℕ) (code number : ℕ) (id key payload : List ℕ) (room : ℕ) where
   abbrev both : Derived
@@ -179,8 +197,8 @@ module _ (mark : ℕ) (keys areas services individual idm c3 random1 random2 : L
   by-keys d = refl
 
   -- both were accepted, and the ends spoke
-  pub played : (scheme : ℕ) (x y : List ℕ) (r : Answer) (before after : List ℕ) → both .number ≡ 0 → scheme ≡ both .scheme → x ≡ both .bytes → y ≡ both .bytes
+  pub played : (n scheme : ℕ) (x y : List ℕ) (r : Answer) (before after : List ℕ) → n ≡ both .number → n ≡ 0 → scheme ≡ both .scheme → x ≡ both .bytes → y ≡ both .bytes
       → Meets (saying (holding scheme x) (holding scheme y) idm c3 random1 random2 code number id key payload room) r before after → Meets Play r before after
-  played scheme x y r before after z s p q m =
-      let n = rw (s, p, q) at m in
-      subst (λ (o : Outcome). Meets o r before after) (by-keys both ∙ sym (goes-on z)) n
+  played n scheme x y r before after e z s p q m =
+      let k = rw (s, p, q) at m in
+      subst (λ (o : Outcome). Meets o r before after) (by-keys both ∙ sym (goes-on (sym e ∙ z))) k
