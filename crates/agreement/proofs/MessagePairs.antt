@@ -7,12 +7,13 @@ use Prim.Native.Nat.{ℕ, zero, suc, _+_, _-_, _≤_, _<_}
 use native.Mathlib.Omega.{arith}
 use borrow.Author.Tests.{eq-eqb, ne-eqb}
 use lib.ListN.{length, take, drop, length-append}
+use lib.Seq.{take-nil}
 use Rattle.cipher.proofs.Numbers.{le-or-lt}
 use Rattle.answer.specs.declared.answer.Answer.{Answer}
 use Rattle.answer.specs.Outcome.{Outcome, refused, accepted, choose, Meets}
 use Rattle.answer.proofs.Outputs.{front, copied-over}
 use Rattle.answer.proofs.Pieces.{copied-next}
-use Rattle.answer.proofs.Rows.{Refused, refused-meets, accepted-meets}
+use Rattle.answer.proofs.Rows.{Refused, meets-refused, accepted-meets}
 use Rattle.answer.proofs.Refusals.{refused-number}
 use Rattle.session.proofs.SessionSteps.{fits-front}
 use Rattle.agreement.specs.Play.{unless}
@@ -48,13 +49,9 @@ pub two-fit : (x y out : List ℕ) (k : ℕ) → length x ≤ k → length y ≤
 two-fit x y out k f g h l = (omega arith, omega arith)
 
 -- what follows the first two bytes of a piece, as `&w[2..n]` has it
-take-none : (m : ℕ) → take {A = ℕ} m [] ≡ []
-take-none zero = refl
-take-none (suc m) = refl
-
 take-after-two : (m : ℕ) (w : List ℕ) → take m (drop 2 w) ≡ drop 2 (take (suc (suc m)) w)
-take-after-two m [] = take-none m
-take-after-two m (x ∷ []) = take-none m
+take-after-two m [] = take-nil m
+take-after-two m (x ∷ []) = take-nil m
 take-after-two m (x ∷ y ∷ w) = refl
 
 pub after-two : (r : Answer) (w : List ℕ) → 2 ≤ r .length → take (r .length - 2) (drop 2 w) ≡ drop 2 (piece r w)
@@ -96,9 +93,6 @@ pair-zero a b z =
     (le-or-lt 1 (a .number))
 
 -- a number that is not 0 was refused
-refusal : (o : Outcome) (k : ℕ) (r : Answer) (out : List ℕ) → o ≡ refused k → Refused k r → Meets o r out out
-refusal o k r out e f = rw e (refused-meets k r out f)
-
 -- ---- the steps
 
 -- A is the message, R what reading answers, B the answer to what was read, C the check: once A was accepted reading never refuses, and once B was
@@ -121,7 +115,7 @@ module _ (t : Message) where
 
   -- the message was refused
   pub message-refused : (n : ℕ) (r : Answer) (out : List ℕ) → n ≡ t .A .number → (n ≡ 0 → ⊥) → Refused n r → Meets Said r out out
-  message-refused n r out m h f = refusal Said n r out (pair-first (t .A) answered (λ e. h (m ∙ e)) ∙ ap refused (sym m)) f
+  message-refused n r out m h f = meets-refused Said n r out (pair-first (t .A) answered (λ e. h (m ∙ e)) ∙ ap refused (sym m)) f
 
   -- it was accepted, and x, its bytes, read
   module _ (n1 : ℕ) (x : List ℕ) (m1 : n1 ≡ t .A .number) (ok : n1 ≡ 0) (is : x ≡ t .A .bytes) where
@@ -140,7 +134,7 @@ module _ (t : Message) where
       number-is = m3 ∙ ap (λ (o : Outcome). o .number) answer-is
 
       pub answer-refused : (r : Answer) (out : List ℕ) → (n3 ≡ 0 → ⊥) → Refused n3 r → Meets Said r out out
-      answer-refused r out h f = refusal Said n3 r out (pair-second (t .A) answered made (λ q. h (number-is ∙ q)) ∙ ap refused (sym number-is)) f
+      answer-refused r out h f = meets-refused Said n3 r out (pair-second (t .A) answered made (λ q. h (number-is ∙ q)) ∙ ap refused (sym number-is)) f
 
       -- the answer was accepted, and v, its bytes, checked
       module _ (ok′ : n3 ≡ 0) (v : List ℕ) (is″ : v ≡ t .B y .bytes) where

@@ -10,7 +10,7 @@ use Rattle.answer.specs.Delivery.{delivering}
 use Rattle.answer.specs.Outcome.{Outcome, refused, accepted, choose, Meets}
 use Rattle.answer.proofs.Outputs.{front}
 use Rattle.answer.proofs.Refusals.{accepted-zero}
-use Rattle.answer.proofs.Rows.{Refused, refused-meets}
+use Rattle.answer.proofs.Rows.{Refused, refused-meets, meets-refused}
 use Rattle.session.specs.Derivation.{Derived, Derives, derivation}
 use Rattle.session.specs.declared.keys.DerivedAuthKeys.{DerivedAuthKeys}
 use Rattle.session.proofs.SessionSteps.{fits-front}
@@ -89,7 +89,7 @@ module _ (a b c d e f : Outcome) (room : ℕ) where
 
 -- a refusal by a pair's number
 stopped : (o p : Outcome) (n : ℕ) (r : Answer) (out : List ℕ) → ((p .number ≡ 0 → ⊥) → o ≡ refused (p .number)) → n ≡ p .number → (n ≡ 0 → ⊥) → Refused n r → Meets o r out out
-stopped o p n r out s m h f = rw (s (λ e. h (m ∙ e)) ∙ ap refused (sym m)) (refused-meets n r out f)
+stopped o p n r out s m h f = meets-refused o n r out (s (λ e. h (m ∙ e)) ∙ ap refused (sym m)) f
 
 -- it was accepted
 pub went-on : (p : Outcome) (n : ℕ) → n ≡ p .number → n ≡ 0 → p .number ≡ 0

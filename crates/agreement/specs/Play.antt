@@ -49,8 +49,9 @@ module _ (r c : Derived) (idm c3 random1 random2 : List ℕ) (code number : ℕ)
       unless (said1A .number ∷ said1B .number ∷ said2A .number ∷ said2B .number ∷ saidCommand .number ∷ saidResponse .number ∷ [])
       (delivering 0 (said1A .bytes ++ said1B .bytes ++ said2A .bytes ++ said2B .bytes ++ saidCommand .bytes ++ saidResponse .bytes) room)
 
--- both ends derive from the same lists, each with 32 bytes of output, and then speak
+-- each end derives for itself, from the same lists and with 32 bytes of output; then they speak
 unfoldable pub playing : ℕ → List ℕ → List ℕ → List ℕ → List ℕ → List ℕ → List ℕ → List ℕ → List ℕ → ℕ → ℕ → List ℕ → List ℕ → List ℕ → ℕ → Outcome
 playing mark keys areas services individual idm c3 random1 random2 code number id key payload room =
-    let both = derivation mark keys areas services individual 32 in
-    unless (both .number ∷ []) (saying both both idm c3 random1 random2 code number id key payload room)
+    let reader = derivation mark keys areas services individual 32 in
+    let card = derivation mark keys areas services individual 32 in
+    unless (reader .number ∷ card .number ∷ []) (saying reader card idm c3 random1 random2 code number id key payload room)

@@ -7,9 +7,8 @@ use native.Mathlib.Omega.{arith}
 use borrow.Author.Tests.{eqb-true, ltb-true, lt-ltb, le-ltb}
 use lib.Dec.{eqb, ltb}
 use lib.ListN.{length}
-use Rattle.answer.specs.Outcome.{Outcome, Row, Meets, refused, accepted, choose, decide, over}
+use Rattle.answer.specs.Outcome.{Outcome, Row, Meets, refused, accepted, choose, decide, firstOf, over}
 use Rattle.answer.specs.Tests.{isnt, either, both}
-use Rattle.answer.specs.Outcome.{firstOf}
 use Rattle.answer.specs.Delivery.{delivering}
 use Rattle.answer.specs.declared.answer.Answer.{Answer}
 use Rattle.answer.proofs.Equality.{both-true}
@@ -25,6 +24,12 @@ pub isnt-false : (a : Bool) → isnt a ≡ false → a ≡ true
 unfolding isnt
 isnt-false true h = refl
 isnt-false false h = sym h
+
+-- one of two numbers that are at most n
+pub choose-most : (t : Bool) (a b n : ℕ) → a ≤ n → b ≤ n → choose t a b ≤ n
+unfolding choose
+choose-most true a b n p q = p
+choose-most false a b n p q = q
 
 -- a number that had to be n
 pub is-number : (m n : ℕ) → isnt (eqb m n) ≡ false → m ≡ n

@@ -8,14 +8,10 @@ use lib.ListN.{length, take, drop, length-append, length-drop, length-map}
 use lib.Seq.{length-take-le}
 use Rattle.cipher.specs.Bytes.{Bytes, tab, _⊕_}
 use Rattle.cipher.specs.Fips197.{sBox, subBytes, cell, shiftRows, mixed, addRoundKey, word, rotWord, rcon, keyTemp, nextWord, keyWords, keyExpansion, roundKey, cipher, invSBox, invShiftRows, invSubBytes, invCipher, aesEncrypt, aesDecrypt}
-use Rattle.cipher.proofs.Xor.{xor-byte, length-⊕, Bytes-⊕}
+use Rattle.cipher.proofs.Xor.{xor-byte, length-xor, Bytes-⊕}
 use Rattle.cipher.proofs.ByteLists.{Bytes-tab, Bytes-map, Bytes-take, Bytes-drop, Bytes-append}
 use Rattle.cipher.proofs.Tabulation.{length-tab}
 use Rattle.cipher.proofs.AesBytes.{times-byte, power-byte, sBox-byte, invSBox-byte}
-
--- two strings of one length
-both-long : (n : ℕ) (s t : List ℕ) → length s ≡ n → length t ≡ n → length (s ⊕ t) ≡ n
-both-long n s t h k = length-⊕ s t (omega arith) ∙ h
 
 -- ---- the key schedule
 
@@ -26,7 +22,7 @@ word-long w i h = length-take-le 4 (drop (4 * i) w) (omega (arith, length-drop (
 temp-long : (r i : ℕ) (t : List ℕ) → length t ≡ 4 → length (keyTemp r i t) ≡ 4
 unfolding keyTemp rotWord rcon
 temp-long zero i t h =
-    both-long 4 (map sBox (drop 1 t ++ take 1 t)) _
+    length-xor 4 (map sBox (drop 1 t ++ take 1 t)) _
     (length-map (drop 1 t ++ take 1 t) sBox ∙ length-append (drop 1 t) (take 1 t) ∙ omega (arith, length-drop 1 t, length-take-le 1 t (omega arith))) refl
 temp-long (suc r) i t h = h
 
@@ -37,7 +33,7 @@ keyWords-long key h (suc n) =
     let w : List ℕ = keyWords key n in
     let l : length w ≡ 16 + 4 * n = keyWords-long key h n in
     let t : List ℕ = keyTemp ((n + 4) % 4) (n + 4) (word w (n + 3)) in
-    let m : length (word w n ⊕ t) ≡ 4 = both-long 4 (word w n) t (word-long w n (omega arith)) (temp-long ((n + 4) % 4) (n + 4) (word w (n + 3)) (word-long w (n + 3) (omega arith))) in
+    let m : length (word w n ⊕ t) ≡ 4 = length-xor 4 (word w n) t (word-long w n (omega arith)) (temp-long ((n + 4) % 4) (n + 4) (word w (n + 3)) (word-long w (n + 3) (omega arith))) in
     length-append w (word w n ⊕ t) ∙ omega arith
 
 pub keyExpansion-long : (key : List ℕ) → length key ≡ 16 → length (keyExpansion key) ≡ 176
@@ -86,7 +82,7 @@ roundKey-bytes w h n = Bytes-take 16 (drop (16 * n) w) (Bytes-drop (16 * n) w h)
 
 pub added-long : (s w : List ℕ) → length s ≡ 16 → length w ≡ 176 → (n : ℕ) → n ≤ 10 → length (addRoundKey s (roundKey w n)) ≡ 16
 unfolding addRoundKey
-added-long s w h l n k = both-long 16 s (roundKey w n) h (roundKey-long w l n k)
+added-long s w h l n k = length-xor 16 s (roundKey w n) h (roundKey-long w l n k)
 
 pub added-bytes : (s w : List ℕ) → Bytes s → Bytes w → (n : ℕ) → Bytes (addRoundKey s (roundKey w n))
 unfolding addRoundKey

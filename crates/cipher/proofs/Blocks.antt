@@ -13,9 +13,6 @@ use Rattle.cipher.proofs.Xor.{⊕-take, length-⊕, length-⊕-r, lengt
 use Rattle.cipher.proofs.Numbers.{le-or-lt}
 use Rattle.cipher.proofs.Filling.{Filled, fill-step, fill-ahead}
 
-pub length-xor : (n : ℕ) (a b : List ℕ) → length a ≡ n → length b ≡ n → length (a ⊕ b) ≡ n
-length-xor n a b p q = length-⊕ a b (omega arith) ∙ p
-
 pub xor-turn : (a b : List ℕ) {d₀ d : List ℕ} {i : ℕ} → Filled (a ⊕ b) d₀ d i → i < length (a ⊕ b)
     → Filled (a ⊕ b) d₀ (set d i (bitXor (getD a i 0) (getD b i 0))) (i + 1)
 xor-turn a b {d₀} {d} {i} r h = fill-step r h _ (sym (getD-⊕ a b i (length-⊕-shorter a b i h .0) (length-⊕-shorter a b i h .1)))

@@ -18,6 +18,7 @@ use Rattle.cipher.specs.Fips46.{select, leftShift, IP, IP⁻¹}
 use Rattle.cipher.specs.inner.DesTables.{deltaSwap, transposed, held}
 use Rattle.cipher.proofs.BitWords.{bitAt, down, down-ext, bits-down, bits-shr, length-bits, bits-mod, bit-shr, bit-xor, bit-and, bit-high, under, ifSet, up}
 use Rattle.cipher.proofs.BitWords.{bit-shl, bits-join, bits-split, num-low}
+use Rattle.cipher.proofs.Tabulation.{listed}
 
 -- ---- delta swaps
 
@@ -115,13 +116,6 @@ transpose-word x y z r p q w =
 -- the places of the bits when eight bytes are taken in the other order
 unfoldable pub mirrored : List ℕ
 mirrored = tab 64 (λ i. 56 - i / 8 * 8 + i % 8 + 1)
-
-listed : (n : ℕ) (l : List ℕ) → length l ≡ n → l ≡ tab n (λ i. getD l i 0)
-unfolding tab
-listed zero [] h = refl
-listed zero (x ∷ l) h = absurd (omega arith)
-listed (suc n) [] h = absurd (omega arith)
-listed (suc n) (x ∷ l) h = ap (λ (t : List ℕ). x ∷ t) (listed n l (omega arith))
 
 mirror-bytes : (h : ℕ → ℕ) → toBits (tab 8 h) ≡ select mirrored (toBits (reverse (tab 8 h)))
 unfolding toBits bits tab mirrored select

@@ -63,6 +63,10 @@ length-⊕ [] t h = refl
 length-⊕ (x ∷ s) [] h = absurd (not-suc-le-zero h)
 length-⊕ (x ∷ s) (y ∷ t) h = ap suc (length-⊕ s t (le-of-suc-le-suc h))
 
+-- two strings of one length
+pub length-xor : (n : ℕ) (s t : List ℕ) → length s ≡ n → length t ≡ n → length (s ⊕ t) ≡ n
+length-xor n s t h k = length-⊕ s t (omega arith) ∙ h
+
 pub length-⊕-r : (s t : List ℕ) → length t ≤ length s → length (s ⊕ t) ≡ length t
 unfolding _⊕_
 length-⊕-r [] [] h = refl

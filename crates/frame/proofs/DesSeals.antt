@@ -18,24 +18,12 @@ use Rattle.answer.specs.Tests.{isnt, both}
 use Rattle.answer.proofs.Outputs.{front, over-self, over-two, over-over, copied-behind, filled-behind}
 use Rattle.answer.proofs.Rows.{AllFalse, numbered, first-passes, either-false, is-number}
 use Rattle.frame.proofs.Fronts.{in-place}
-
-pub pad-low : (n : ℕ) → padCount n < 8
-unfolding padCount
-pad-low n = omega arith
-
--- a padded string is a number of whole blocks
-pub pad-whole : (n : ℕ) → (n + padCount n) % 8 ≡ 0
-unfolding padCount
-pad-whole n = omega arith
+use Rattle.frame.proofs.Pads.{padCount-small, padCount-whole, length-pad}
 
 -- sealed data has at most 248 bytes
 pub size-most : (n : ℕ) → n ≤ 232 → desSize n ≤ 248
 unfolding desSize
-size-most n h = omega (arith, pad-low (n + 8), pad-whole (n + 8))
-
-pub length-pad : (l : List ℕ) → length (pad l) ≡ length l + padCount (length l)
-unfolding pad
-length-pad l = length-append l _ ∙ ap (λ (k : ℕ). length l + k) (length-replicate _ _)
+size-most n h = omega (arith, padCount-small (n + 8), padCount-whole (n + 8))
 
 -- the padding was filled in behind the first len bytes
 pub padded-front : (o last : List ℕ) (len count : ℕ) → len + padCount len ≤ length o → count ≡ padCount len
@@ -75,7 +63,7 @@ module _ (code len r : ℕ) (key o : List ℕ) (room : len + padCount len + 8 �
   sealed-front s m s′ last es em lm es′ el ll =
       let p : List ℕ = pad (take len o) in
       let lp : length (p ++ m) ≡ r + 8 = length-append p m ∙ rw (length-padded, lm) in
-      let w : (r + 8) % 8 ≡ 0 = rw end (omega (arith, pad-whole len)) in
+      let w : (r + 8) % 8 ≡ 0 = rw end (omega (arith, padCount-whole len)) in
       let mm : m ≡ desMac code p = em ∙ ap (desMac code) (front p o s r length-padded es) in
       let q = in-place 8 (cbcEncrypt (desEncrypt key) 8 (replicate 8 0)) (p ++ m) o s′ last (r + 8) lp es′ w el ll in (
         sym (q .0) ∙ ap (λ (z : List ℕ). length (cbcEncrypt (desEncrypt key) 8 (replicate 8 0) (p ++ z))) mm,

@@ -22,6 +22,7 @@ use Rattle.frame.specs.Padding.{padCount, pad}
 use Rattle.answer.specs.Tests.{isnt, either, same}
 use Rattle.frame.specs.DesFrame.{macStart, desMac, recovered, macHolds, desSeal, header, desSealed, desSize, desPlain, idOf, payloadOf, openRows, plainRows, desOpening}
 use Rattle.frame.proofs.DesOpens.{all-rows, by-rows}
+use Rattle.frame.proofs.DesSeals.{length-header}
 use Rattle.frame.proofs.Pads.{length-pad, padCount-small, padCount-whole, padCount-header, pad-none, pad-after, Bytes-pad}
 use Rattle.answer.proofs.Rows.{AllFalse, decide-false, isnt-false, either-false}
 use Rattle.answer.proofs.Refusals.{zero-passes, accepted-zero, accepted-number, accepted-bytes, isnt-of, either-of, same-of}
@@ -57,10 +58,6 @@ module _ (code : ℕ) (plain : List ℕ) (hc : code < 256) where
       mac-behind code plain (desMac code plain) (desMac-block code plain hc .long)
       ∙ same-of _ _ (des-back-under plain (macStart (length plain + 10) code) (macStart-block (length plain + 10) code hc))
 
-pub header-long : (number : ℕ) (id : List ℕ) → length id ≡ 6 → length (header number id) ≡ 8
-unfolding header
-header-long number id h = ap (λ (k : ℕ). suc (suc k)) h
-
 pub Bytes-header : (number : ℕ) (id : List ℕ) → Bytes id → Bytes (header number id)
 unfolding header
 Bytes-header number id b = Bytes-cons (number % 256) (number / 256 % 256 ∷ id) (mod-lt number (lit< tt)) (Bytes-cons (number / 256 % 256) id (mod-lt (number / 256) (lit< tt)) b)
@@ -83,11 +80,11 @@ module _ (key id payload : List ℕ) (code number : ℕ) (hk : length key ≡ 8)
 
   plain-is : pad (header number id ++ payload) ≡ plain
   unfolding plain
-  plain-is = pad-after (header number id) payload (header-long number id hi)
+  plain-is = pad-after (header number id) payload (length-header number id hi)
 
   plain-long : length plain ≡ 8 + (length payload + padCount (length payload))
   unfolding plain
-  plain-long = length-append (header number id) (pad payload) ∙ ap₂ _+_ (header-long number id hi) (length-pad payload)
+  plain-long = length-append (header number id) (pad payload) ∙ ap₂ _+_ (length-header number id hi) (length-pad payload)
 
   plain-bytes : Bytes plain
   unfolding plain
@@ -130,7 +127,7 @@ module _ (key id payload : List ℕ) (code number : ℕ) (hk : length key ≡ 8)
   unfolding payloadOf
   payload-is =
       let n : length full - 16 ≡ length (pad payload) = omega (arith, full-long, length-pad payload) in
-      let d : drop 8 full ≡ pad payload ++ desMac code plain = ap (drop 8) full-split ∙ drop-at (header number id) (pad payload ++ desMac code plain) 8 (header-long number id hi) in
+      let d : drop 8 full ≡ pad payload ++ desMac code plain = ap (drop 8) full-split ∙ drop-at (header number id) (pad payload ++ desMac code plain) 8 (length-header number id hi) in
       rw (n, d) (take-at (pad payload) (desMac code plain) (length (pad payload)) refl)
 
   number-is : numberOf full ≡ number

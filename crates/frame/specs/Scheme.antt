@@ -5,10 +5,9 @@ use mathlib.Core.Path.{_≡_}
 use mathlib.Core.List.{List, [], _∷_}
 use lib.Dec.{eqb, ltb}
 use lib.ListN.{length}
-use Rattle.answer.specs.Outcome.{Outcome, refused, accepted, row, choose}
+use Rattle.answer.specs.Outcome.{Outcome, refused, accepted, row, choose, firstOf}
 use Rattle.frame.specs.DesFrame.{desSize, desSealed, desSealing, desOpening}
 use Rattle.frame.specs.AesFrame.{aesSize, aesSealed, aesSealing, aesOpening}
-use Rattle.answer.specs.Outcome.{firstOf}
 use Rattle.answer.specs.Tests.{isnt, either}
 
 -- the outcome of the scheme that the mark names

@@ -17,7 +17,7 @@ use Rattle.answer.specs.Delivery.{delivering}
 use Rattle.answer.specs.Fixed.{fit}
 use Rattle.answer.specs.Outcome.{Meets, row, accepted, choose, decide, over}
 use Rattle.answer.specs.Tests.{isnt, either, same}
-use Rattle.answer.proofs.Rows.{Refused, either-false, is-number, refused-meets, accepted-meets}
+use Rattle.answer.proofs.Rows.{Refused, choose-most, either-false, is-number, refused-meets, accepted-meets}
 use Rattle.answer.proofs.Outputs.{copied-over}
 use Rattle.answer.proofs.Pieces.{copied-next}
 use Rattle.session.specs.Challenge.{desL, desAlpha, desBeta, aesH, aesAlpha, aesBeta, contextBlock, with3C, blockSize, unknownScheme, wrong, wrongWith3C, giving, checking, sessionKeyInput, sessionKeys, derivingSessionKeys}
@@ -51,12 +51,8 @@ two-blocks s = go (eqb s 1)
     go false = refl
 
 pub size-most : (s : ℕ) → blockSize s ≤ 16
-unfolding blockSize choose
-size-most s = go (eqb s 1)
-  where
-    go : (t : Bool) → choose t 8 16 ≤ 16
-    go true = lit≤ tt
-    go false = lit≤ tt
+unfolding blockSize
+size-most s = choose-most (eqb s 1) 8 16 16 (lit≤ tt) (lit≤ tt)
 
 -- ---- the tests of row 17
 

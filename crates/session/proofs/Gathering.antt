@@ -14,6 +14,7 @@ use Rattle.cipher.specs.Bytes.{Bytes}
 use Rattle.cipher.proofs.ByteLists.{Bytes-nil, Bytes-append, Bytes-take, Bytes-drop}
 use Rattle.cipher.proofs.Copies.{length-part, part-of, stored}
 use Rattle.answer.specs.Outcome.{choose}
+use Rattle.answer.proofs.Rows.{choose-most}
 use Rattle.session.specs.Entries.{Entry, entryOf, firstEntries, entries, place, has, keyAt}
 use Rattle.session.specs.Derivation.{other, keyLength, Derived, turnedDown, needing, lacks, keyOf, keysOf}
 use Rattle.session.specs.inner.DerivationSteps.{missing, Holds}
@@ -32,12 +33,8 @@ key-at (suc n) l (suc p) h =
 
 -- an entry has room for a key
 pub length-most : (a : ℕ) → keyLength a ≤ 16
-unfolding keyLength choose
-length-most a = go (eqb a 1)
-  where
-    go : (t : Bool) → choose t 8 16 ≤ 16
-    go true = lit≤ tt
-    go false = lit≤ tt
+unfolding keyLength
+length-most a = choose-most (eqb a 1) 8 16 16 (lit≤ tt) (lit≤ tt)
 
 module _ (keys : List ℕ) (a n : ℕ) where
   module _ (p : ℕ) (e : p ≡ place (entries keys) n a) (h : p < length keys / 19) where

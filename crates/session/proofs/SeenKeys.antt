@@ -8,6 +8,7 @@ use native.Mathlib.Omega.{arith}
 use borrow.Author.Tests.{ltb-false, le-ltb}
 use lib.Dec.{eqb, ltb}
 use lib.ListN.{length, take}
+use lib.Seq.{take-nil}
 use Rattle.cipher.specs.Bytes.{Bytes}
 use Rattle.cipher.specs.Fips197.{aesEncrypt}
 use Rattle.cipher.specs.Fips46.{desEncrypt}
@@ -30,13 +31,9 @@ key-beyond [] i h = refl
 key-beyond (e ∷ es) zero h = absurd (omega arith)
 key-beyond (e ∷ es) (suc i) h = key-beyond es i (omega arith)
 
-take-nothing : (n : ℕ) → take {A = ℕ} n [] ≡ []
-take-nothing zero = refl
-take-nothing (suc n) = refl
-
 pub no-key : (es : List Entry) (node algorithm : ℕ) → has es node algorithm ≡ false → keyOf es algorithm node ≡ []
 unfolding has keyOf
-no-key es node algorithm h = rw (key-beyond es (place es node algorithm) (ltb-false _ _ h)) (take-nothing (keyLength algorithm))
+no-key es node algorithm h = rw (key-beyond es (place es node algorithm) (ltb-false _ _ h)) (take-nil (keyLength algorithm))
 
 module _ (es fs : List Entry) (same : Alike es fs) where
   -- whether it is there or not

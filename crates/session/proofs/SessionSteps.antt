@@ -13,7 +13,7 @@ use lib.Seq.{take-all}
 use Rattle.answer.specs.Outcome.{Row, Meets, choose, decide, refused, firstOf, over}
 use Rattle.answer.specs.Tests.{either, both}
 use Rattle.cipher.proofs.Numbers.{le-or-lt}
-use Rattle.answer.proofs.Rows.{Refused, refused-meets, numbered, decide-false, first-refuses, first-passes, either-false, is-number}
+use Rattle.answer.proofs.Rows.{Refused, choose-most, refused-meets, numbered, decide-false, first-refuses, first-passes, either-false, is-number}
 use Rattle.frame.proofs.Schemes.{opening-whole}
 use Rattle.session.specs.Session.{credentialsSize, credentialsOf, makeRows, filled, withNumber, withCount, Step, stepped, Steps, more, counting, opened, acceptRows, receiving, received, Receives}
 use Rattle.session.specs.declared.context.AuthenticatedContext.{AuthenticatedContext}
@@ -75,11 +75,6 @@ module _ (number : ℕ) (s : AuthenticatedContext) where
     counting-more h = sym (counting-one ∙ rw (lt-ltb (s .«turned_away») 65535 h))
 
 -- ---- making
-
-pub choose-most : (b : Bool) (m n k : ℕ) → m ≤ k → n ≤ k → choose b m n ≤ k
-unfolding choose
-choose-most true m n k h i = h
-choose-most false m n k h i = i
 
 -- a copy over zeros
 drop-zeros : (k n : ℕ) → drop k (replicate {A = ℕ} n 0) ≡ replicate (n - k) 0

@@ -4,10 +4,9 @@ use answer::Answer;
 ghost use mathlib.Core.Path.{_≡_};
 ghost use Prim.Native.Nat.{_+_, _*_, _≤_};
 ghost use lib.ListN.{length, take};
-ghost use Rattle.answer.specs.Outcome.{firstOf};
+ghost use Rattle.answer.specs.Outcome.{firstOf, Meets};
 ghost use Rattle.session.specs.Session.{makeRows, nothing, established, Makes, withNumber, counting, Steps, listedCount, firstPlace, indexIn, index, acceptRows, Receives, receiving, credentialsSize, credentialsOf};
 ghost use Rattle.session.specs.Entries.{nodes as nodeList};
-ghost use Rattle.answer.specs.Outcome.{Meets};
 ghost use Rattle.frame.specs.Scheme.{sealing, opening};
 ghost use Rattle.session.specs.Record.{encode, decode, contextOf};
 

@@ -4,7 +4,8 @@ use native.Mathlib.Omega.{arith}
 use lib.ListN.{length}
 use Rattle.cipher.specs.Bytes.{_⊕_}
 use Rattle.cipher.proofs.Filling.{Filled, fill-start, fill-all}
-use Rattle.cipher.proofs.Blocks.{length-xor, xor-turn}
+use Rattle.cipher.proofs.Blocks.{xor-turn}
+use Rattle.cipher.proofs.Xor.{length-xor}
 use Rattle.cipher.proofs.bytes.xor_blocks16.Statement.{statement}
 use Rattle.cipher.proofs.bytes.xor_blocks16.Tie as tie
 

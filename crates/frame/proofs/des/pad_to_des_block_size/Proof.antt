@@ -1,11 +1,12 @@
 use native.Mathlib.Omega.{arith}
-use Rattle.frame.proofs.DesSeals.{pad-low, padded-front}
+use Rattle.frame.proofs.DesSeals.{padded-front}
+use Rattle.frame.proofs.Pads.{padCount-small}
 use borrow.Author.Needs.{needs}
 use Rattle.frame.proofs.des.pad_to_des_block_size.Statement.{statement}
 use Rattle.frame.proofs.des.pad_to_des_block_size.Tie as tie
 
 cast-fill : tie.Need-cast-fill
-cast-fill c = omega (arith, pad-low (c .before .before .before .args .len))
+cast-fill c = omega (arith, padCount-small (c .before .before .before .args .len))
 
 returns : tie.Need-returns
 returns c =

@@ -1,6 +1,6 @@
 use Rattle.frame.specs.DesFrame.{desSize}
 use native.Mathlib.Omega.{arith}
-use Rattle.frame.proofs.DesSeals.{pad-low}
+use Rattle.frame.proofs.Pads.{padCount-small}
 use Prim.Native.Nat.{_+_}
 use mathlib.Core.Path.{ap}
 use Prim.Native.Nat.{ℕ}
@@ -9,10 +9,10 @@ use Rattle.frame.proofs.des.size_des.Statement.{statement}
 use Rattle.frame.proofs.des.size_des.Tie as tie
 
 add-result : tie.Need-add-result
-add-result c = omega (arith, pad-low (c .before .args .n + 8))
+add-result c = omega (arith, padCount-small (c .before .args .n + 8))
 
 add-result-2 : tie.Need-add-result-2
-add-result-2 c = omega (arith, pad-low (c .before .args .n + 8))
+add-result-2 c = omega (arith, padCount-small (c .before .args .n + 8))
 
 returns : tie.Need-returns
 unfolding desSize
