@@ -14,7 +14,7 @@ use Rattle.cipher.proofs.ByteLists.{Block, Bytes-replicate}
 use Rattle.cipher.proofs.AesInverse.{aes-decrypt-encrypt, aes-encrypt-decrypt}
 use Rattle.cipher.proofs.AesLengths.{aesEncrypt-long, aesEncrypt-bytes, aesDecrypt-long, aesDecrypt-bytes}
 use Rattle.cipher.proofs.DesInverse.{des-decrypt-encrypt, des-encrypt-decrypt, length-desEncrypt, length-desDecrypt, Bytes-desEncrypt, Bytes-desDecrypt}
-use Rattle.cipher.proofs.ModeLaws.{Undone, length-cbcEncrypt, Bytes-cbcEncrypt, length-cbcDecrypt, Bytes-cbcDecrypt, cbc-decrypt-encrypt, cbc-encrypt-decrypt, length-ofb, ofb-twice, ofb-parts, input-block, Bytes-ofb}
+use Rattle.cipher.proofs.ModeLaws.{Undone, length-cbcEncrypt, Bytes-cbcEncrypt, length-cbcDecrypt, Bytes-cbcDecrypt, cbc-decrypt-encrypt, cbc-encrypt-decrypt, length-ofb, ofb-twice, ofb-parts, good-input, Bytes-ofb}
 use Rattle.cipher.proofs.Folds.{good-under, good-under-whole, good-back, back-under, under-back, under-alike, back-alike}
 use Rattle.cipher.proofs.Macs.{mac-block}
 use Rattle.cipher.proofs.Parity.{des-encrypt-halves, des-decrypt-halves}
@@ -63,26 +63,30 @@ module _ (key : List ℕ) where
 pub zeros-block : (w : ℕ) → Block w (replicate w 0)
 zeros-block w = record { long = length-replicate w 0; bytes = Bytes-replicate w 0 (lit< tt) }
 
-module _ (key l : List ℕ) (b : Bytes l) (n : ℕ) (h : length l ≡ n * 8) where
+module _ (key l : List ℕ) (n : ℕ) (h : length l ≡ n * 8) where
   pub length-des-cbc : length (cbcEncrypt (desEncrypt key) 8 (replicate 8 0) l) ≡ length l
-  length-des-cbc = length-cbcEncrypt _ _ 8 (lit< tt) (des-undone key) _ l (zeros-block 8) b n h
-
-  pub Bytes-des-cbc : Bytes (cbcEncrypt (desEncrypt key) 8 (replicate 8 0) l)
-  Bytes-des-cbc = Bytes-cbcEncrypt _ _ 8 (lit< tt) (des-undone key) _ l (zeros-block 8) b n h
+  length-des-cbc = length-cbcEncrypt 8 (lit< tt) l n h _ (λ b k. length-desEncrypt key b) _ (zeros-block 8 .long)
 
   pub length-des-cbc-back : length (cbcDecrypt (desDecrypt key) 8 (replicate 8 0) l) ≡ length l
-  length-des-cbc-back = length-cbcDecrypt _ _ 8 (lit< tt) (des-redone key) _ l (zeros-block 8) b n h
+  length-des-cbc-back = length-cbcDecrypt 8 (lit< tt) l n h _ (λ b k. length-desDecrypt key b) _ (zeros-block 8 .long)
+
+module _ (key l : List ℕ) (b : Bytes l) (n : ℕ) (h : length l ≡ n * 8) where
+  pub Bytes-des-cbc : Bytes (cbcEncrypt (desEncrypt key) 8 (replicate 8 0) l)
+  Bytes-des-cbc = Bytes-cbcEncrypt _ _ 8 (lit< tt) (des-undone key) _ l (zeros-block 8) b n h
 
   pub Bytes-des-cbc-back : Bytes (cbcDecrypt (desDecrypt key) 8 (replicate 8 0) l)
   Bytes-des-cbc-back = Bytes-cbcDecrypt _ _ 8 (lit< tt) (des-redone key) _ l (zeros-block 8) b n h
 
   pub des-cbc-decrypt-encrypt : cbcDecrypt (desDecrypt key) 8 (replicate 8 0) (cbcEncrypt (desEncrypt key) 8 (replicate 8 0) l) ≡ l
-  des-cbc-decrypt-encrypt = cbc-decrypt-encrypt _ _ 8 (lit< tt) (des-undone key) _ l (zeros-block 8) b n h
+  des-cbc-decrypt-encrypt = cbc-decrypt-encrypt _ _ 8 (lit< tt) (des-undone key) _ l (zeros-block 8) b n h (λ c k. length-desEncrypt key c)
 
   pub des-cbc-encrypt-decrypt : cbcEncrypt (desEncrypt key) 8 (replicate 8 0) (cbcDecrypt (desDecrypt key) 8 (replicate 8 0) l) ≡ l
-  des-cbc-encrypt-decrypt = cbc-encrypt-decrypt _ _ 8 (lit< tt) (des-redone key) _ l (zeros-block 8) b n h
+  des-cbc-encrypt-decrypt = cbc-encrypt-decrypt _ _ 8 (lit< tt) (des-redone key) _ l (zeros-block 8) b n h (λ c k. length-desDecrypt key c)
 
 -- ---- the DES fold and its way back: the keys may be any string
+
+pub length-des-under : (keys s : List ℕ) → length s ≡ 8 → length (underEach desEncrypt 8 keys s) ≡ 8
+length-des-under = good-under desEncrypt 8 (λ s. length s ≡ 8) (λ k b h. length-desEncrypt k b)
 
 module _ (keys s : List ℕ) (g : Block 8 s) where
   pub des-under-block : Block 8 (underEach desEncrypt 8 keys s)
@@ -112,16 +116,23 @@ aes-under-block = good-under-whole aesEncrypt 16 (lit< tt) (Block 16) (λ k b h 
 
 -- ---- AES OFB and CMAC
 
+module _ (key : List ℕ) (k : length key ≡ 16) where
+  pub length-aes-ofb : (iv l : List ℕ) → length iv ≡ 16 → length (ofb (aesEncrypt key) 16 iv l) ≡ length l
+  length-aes-ofb = length-ofb _ 16 (λ b h. aesEncrypt-long key b k) (lit< tt)
+
+  pub length-aes-input : (n : ℕ) (iv : List ℕ) → length iv ≡ 16 → length (ofbInput (aesEncrypt key) 16 n iv) ≡ 16
+  length-aes-input = good-input _ 16 (λ s. length s ≡ 16) (λ b h. aesEncrypt-long key b k)
+
+  pub length-aes-cmac : (m : List ℕ) → length (cmac (aesEncrypt key) 16 R128 m) ≡ 16
+  length-aes-cmac = mac-block _ 16 R128 (lit< tt) (λ s. length s ≡ 16) (λ b. aesEncrypt-long key b k)
+
 module _ (key : List ℕ) (k : Block 16 key) where
   module _ (iv l : List ℕ) (g : Block 16 iv) where
-    pub length-aes-ofb : length (ofb (aesEncrypt key) 16 iv l) ≡ length l
-    length-aes-ofb = length-ofb _ 16 (λ b h. aesEncrypt-block key k b .long) (lit< tt) iv l (g .long)
-
     pub aes-ofb-twice : ofb (aesEncrypt key) 16 iv (ofb (aesEncrypt key) 16 iv l) ≡ l
     aes-ofb-twice = ofb-twice _ 16 (λ b h. aesEncrypt-block key k b .long) (lit< tt) iv l (g .long)
 
     pub aes-input-block : (n : ℕ) → Block 16 (ofbInput (aesEncrypt key) 16 n iv)
-    aes-input-block n = input-block _ 16 (λ c h. aesEncrypt-block key k c) n iv g
+    aes-input-block n = good-input _ 16 (Block 16) (λ c h. aesEncrypt-block key k c) n iv g
 
     -- a second part after n whole blocks goes on at the boundary
     pub aes-ofb-parts : (n : ℕ) (m : List ℕ) → length l ≡ n * 16 → ofb (aesEncrypt key) 16 iv (l ++ m) ≡ ofb (aesEncrypt key) 16 iv l ++ ofb (aesEncrypt key) 16 (ofbInput (aesEncrypt key) 16 n iv) m
@@ -129,6 +140,3 @@ module _ (key : List ℕ) (k : Block 16 key) where
 
     pub Bytes-aes-ofb : Bytes l → Bytes (ofb (aesEncrypt key) 16 iv l)
     Bytes-aes-ofb b = Bytes-ofb _ 16 (λ c h. aesEncrypt-block key k c) iv l g b
-
-  pub aes-cmac-block : (m : List ℕ) → Block 16 (cmac (aesEncrypt key) 16 R128 m)
-  aes-cmac-block m = mac-block _ 16 R128 (lit< tt) (Block 16) (aesEncrypt-block key k) m

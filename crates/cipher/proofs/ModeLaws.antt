@@ -11,7 +11,7 @@ use lib.Seq.{take-at, drop-at, length-take-le, take-all, take-nil, drop-nil, tak
 use Rattle.cipher.specs.Bytes.{Bytes, _⊕_}
 use Rattle.cipher.specs.Sp80038a.{chain, blocks, cbcOut, cbcBack, itself, cbcEncrypt, cbcDecrypt, ofbOut, ofbNext, ofbInput, ofb}
 use Rattle.cipher.proofs.Numbers.{le-or-lt}
-use Rattle.cipher.proofs.Xor.{⊕-twice, length-⊕, Bytes-⊕}
+use Rattle.cipher.proofs.Xor.{⊕-twice, length-⊕, length-xor, Bytes-⊕}
 use Rattle.cipher.proofs.ByteLists.{Block, empty, Bytes-nil, Bytes-append, Bytes-take, Bytes-drop}
 
 -- ---- whole blocks
@@ -42,21 +42,23 @@ other-blocks w n l h =
 pub Block-⊕ : (w : ℕ) (a b : List ℕ) → Block w a → Block w b → Block w (a ⊕ b)
 Block-⊕ w a b g h = let p = g .long in let q = h .long in record { long = length-⊕ a b (omega arith) ∙ p; bytes = Bytes-⊕ a b (g .bytes) (h .bytes) }
 
--- what a mode writes over n whole blocks, where each step gives a block and the state stays good
-module _ (out next : List ℕ → List ℕ → List ℕ) (w : ℕ) (gives : (s b : List ℕ) → Block w s → Block w b → Block w (out s b))
-    (keeps : (s b : List ℕ) → Block w s → Block w b → Block w (next s b)) where
-  pub length-chain : (n : ℕ) (s l : List ℕ) → Block w s → Bytes l → length l ≡ n * w → length (chain out next w s n l) ≡ n * w
+-- what a mode writes over n whole blocks is as long, where each step gives as many bytes as it takes
+module _ (out next : List ℕ → List ℕ → List ℕ) (w : ℕ) (gives : (s b : List ℕ) → length s ≡ w → length b ≡ w → length (out s b) ≡ w)
+    (keeps : (s b : List ℕ) → length s ≡ w → length b ≡ w → length (next s b) ≡ w) where
+  length-chain : (n : ℕ) (s l : List ℕ) → length s ≡ w → length l ≡ n * w → length (chain out next w s n l) ≡ n * w
   unfolding chain
-  length-chain zero s l g b h = sym (zero-mul w)
-  length-chain (suc n) s l g b h =
-      let f = first-block w n l h b in
-      let o = gives s (take w l) g f in
+  length-chain zero s l g h = sym (zero-mul w)
+  length-chain (suc n) s l g h =
       let e : suc n * w ≡ n * w + w = suc-mul n w in
-      let r : length (chain out next w (next s (take w l)) n (drop w l)) ≡ n * w = length-chain n (next s (take w l)) (drop w l) (keeps s (take w l) g f) (Bytes-drop w l b) (other-blocks w n l h) in
-      let q = o .long in
+      let f : length (take w l) ≡ w = length-take-le w l (omega arith) in
+      let q : length (out s (take w l)) ≡ w = gives s (take w l) g f in
+      let r : length (chain out next w (next s (take w l)) n (drop w l)) ≡ n * w = length-chain n (next s (take w l)) (drop w l) (keeps s (take w l) g f) (other-blocks w n l h) in
       length-append (out s (take w l)) _ ∙ omega arith
 
-  pub Bytes-chain : (n : ℕ) (s l : List ℕ) → Block w s → Bytes l → length l ≡ n * w → Bytes (chain out next w s n l)
+-- it is made of bytes, where each step gives a block and the state stays one
+module _ (out next : List ℕ → List ℕ → List ℕ) (w : ℕ) (gives : (s b : List ℕ) → Block w s → Block w b → Block w (out s b))
+    (keeps : (s b : List ℕ) → Block w s → Block w b → Block w (next s b)) where
+  Bytes-chain : (n : ℕ) (s l : List ℕ) → Block w s → Bytes l → length l ≡ n * w → Bytes (chain out next w s n l)
   unfolding chain
   Bytes-chain zero s l g b h = Bytes-nil
   Bytes-chain (suc n) s l g b h =
@@ -107,42 +109,55 @@ module _ (E D : List ℕ → List ℕ) (w : ℕ) (pos : 0 < w) (law : Undone E D
   unfolding cbcBack
   back-gives s b g h = Block-⊕ w (E b) s (law .enc b h) g
 
--- for n whole blocks
-module _ (E D : List ℕ → List ℕ) (w : ℕ) (pos : 0 < w) (law : Undone E D w) (iv l : List ℕ) (g : Block w iv) (b : Bytes l) (n : ℕ) (h : length l ≡ n * w) where
+-- n whole blocks
+module _ (w : ℕ) (pos : 0 < w) (l : List ℕ) (n : ℕ) (h : length l ≡ n * w) where
   count : blocks w (length l) ≡ n
   count = ap (blocks w) h ∙ blocks-times w n pos
 
-  pub length-cbcEncrypt : length (cbcEncrypt E w iv l) ≡ length l
-  unfolding cbcEncrypt
-  length-cbcEncrypt = rw count (length-chain _ _ w (cbc-gives E D w pos law) (cbc-gives E D w pos law) n iv l g b h ∙ sym h)
+  -- lengths alone: a cipher that gives as many bytes as it takes
+  module _ (CIPH : List ℕ → List ℕ) (long : (b : List ℕ) → length b ≡ w → length (CIPH b) ≡ w) (iv : List ℕ) (g : length iv ≡ w) where
+    out-long : (s b : List ℕ) → length s ≡ w → length b ≡ w → length (cbcOut CIPH w s b) ≡ w
+    unfolding cbcOut
+    out-long s b k m = long (b ⊕ s) (length-xor w b s m k)
 
+    back-long : (s b : List ℕ) → length s ≡ w → length b ≡ w → length (cbcBack CIPH w s b) ≡ w
+    unfolding cbcBack
+    back-long s b k m = length-xor w (CIPH b) s (long b m) k
+
+    pub length-cbcEncrypt : length (cbcEncrypt CIPH w iv l) ≡ length l
+    unfolding cbcEncrypt
+    length-cbcEncrypt = rw count (length-chain _ _ w out-long out-long n iv l g h ∙ sym h)
+
+    pub length-cbcDecrypt : length (cbcDecrypt CIPH w iv l) ≡ length l
+    unfolding cbcDecrypt
+    length-cbcDecrypt = rw count (length-chain _ _ w back-long (λ s c k m. m) n iv l g h ∙ sym h)
+
+-- for n whole blocks of bytes
+module _ (E D : List ℕ → List ℕ) (w : ℕ) (pos : 0 < w) (law : Undone E D w) (iv l : List ℕ) (g : Block w iv) (b : Bytes l) (n : ℕ) (h : length l ≡ n * w) where
   pub Bytes-cbcEncrypt : Bytes (cbcEncrypt E w iv l)
   unfolding cbcEncrypt
-  Bytes-cbcEncrypt = rw count (Bytes-chain _ _ w (cbc-gives E D w pos law) (cbc-gives E D w pos law) n iv l g b h)
+  Bytes-cbcEncrypt = rw (count w pos l n h) (Bytes-chain _ _ w (cbc-gives E D w pos law) (cbc-gives E D w pos law) n iv l g b h)
 
   -- of decryption by E
-  pub length-cbcDecrypt : length (cbcDecrypt E w iv l) ≡ length l
-  unfolding cbcDecrypt
-  length-cbcDecrypt = rw count (length-chain _ _ w (back-gives E D w pos law) (λ s c k m. m) n iv l g b h ∙ sym h)
-
   pub Bytes-cbcDecrypt : Bytes (cbcDecrypt E w iv l)
   unfolding cbcDecrypt
-  Bytes-cbcDecrypt = rw count (Bytes-chain _ _ w (back-gives E D w pos law) (λ s c k m. m) n iv l g b h)
+  Bytes-cbcDecrypt = rw (count w pos l n h) (Bytes-chain _ _ w (back-gives E D w pos law) (λ s c k m. m) n iv l g b h)
 
-  pub cbc-decrypt-encrypt : cbcDecrypt D w iv (cbcEncrypt E w iv l) ≡ l
-  unfolding cbcEncrypt cbcDecrypt
-  cbc-decrypt-encrypt =
-      ap (λ (k : ℕ). chain (cbcBack D w) (itself D w) w iv k (cbcEncrypt E w iv l)) (ap (blocks w) length-cbcEncrypt ∙ count)
-      ∙ ap (λ (k : ℕ). chain (cbcBack D w) (itself D w) w iv n (chain (cbcOut E w) (cbcOut E w) w iv k l)) count
-      ∙ undone E D w pos law n iv l g b h
+  module _ (long : (c : List ℕ) → length c ≡ w → length (E c) ≡ w) where
+    pub cbc-decrypt-encrypt : cbcDecrypt D w iv (cbcEncrypt E w iv l) ≡ l
+    unfolding cbcEncrypt cbcDecrypt
+    cbc-decrypt-encrypt =
+        ap (λ (k : ℕ). chain (cbcBack D w) (itself D w) w iv k (cbcEncrypt E w iv l)) (ap (blocks w) (length-cbcEncrypt w pos l n h E long iv (g .long)) ∙ count w pos l n h)
+        ∙ ap (λ (k : ℕ). chain (cbcBack D w) (itself D w) w iv n (chain (cbcOut E w) (cbcOut E w) w iv k l)) (count w pos l n h)
+        ∙ undone E D w pos law n iv l g b h
 
-  -- with the cipher's directions exchanged: E here is what CBC decryption uses
-  pub cbc-encrypt-decrypt : cbcEncrypt D w iv (cbcDecrypt E w iv l) ≡ l
-  unfolding cbcEncrypt cbcDecrypt
-  cbc-encrypt-decrypt =
-      ap (λ (k : ℕ). chain (cbcOut D w) (cbcOut D w) w iv k (cbcDecrypt E w iv l)) (ap (blocks w) length-cbcDecrypt ∙ count)
-      ∙ ap (λ (k : ℕ). chain (cbcOut D w) (cbcOut D w) w iv n (chain (cbcBack E w) (itself E w) w iv k l)) count
-      ∙ redone E D w pos law n iv l g b h
+    -- with the cipher's directions exchanged: E here is what CBC decryption uses
+    pub cbc-encrypt-decrypt : cbcEncrypt D w iv (cbcDecrypt E w iv l) ≡ l
+    unfolding cbcEncrypt cbcDecrypt
+    cbc-encrypt-decrypt =
+        ap (λ (k : ℕ). chain (cbcOut D w) (cbcOut D w) w iv k (cbcDecrypt E w iv l)) (ap (blocks w) (length-cbcDecrypt w pos l n h E long iv (g .long)) ∙ count w pos l n h)
+        ∙ ap (λ (k : ℕ). chain (cbcOut D w) (cbcOut D w) w iv n (chain (cbcBack E w) (itself E w) w iv k l)) (count w pos l n h)
+        ∙ redone E D w pos law n iv l g b h
 
 -- ---- OFB
 
@@ -249,13 +264,14 @@ module _ (CIPH : List ℕ → List ℕ) (w : ℕ) where
       ∙ run-parts n (blocks w (length b)) iv a b h
       ∙ ap (λ (k : ℕ). run iv k a ++ run (ofbInput CIPH w n iv) (blocks w (length b)) b) (sym (ap (blocks w) h ∙ blocks-times w n pos))
 
+  -- what the cipher keeps, an input block keeps
+  pub good-input : (Good : List ℕ → Type 0) → ((b : List ℕ) → Good b → Good (CIPH b)) → (n : ℕ) (iv : List ℕ) → Good iv → Good (ofbInput CIPH w n iv)
+  unfolding ofbInput
+  good-input Good keeps zero iv g = g
+  good-input Good keeps (suc n) iv g = keeps (ofbInput CIPH w n iv) (good-input Good keeps n iv g)
+
   -- bytes in, bytes out
   module _ (keeps : (b : List ℕ) → Block w b → Block w (CIPH b)) where
-    pub input-block : (n : ℕ) (iv : List ℕ) → Block w iv → Block w (ofbInput CIPH w n iv)
-    unfolding ofbInput
-    input-block zero iv g = g
-    input-block (suc n) iv g = keeps (ofbInput CIPH w n iv) (input-block n iv g)
-
     Bytes-run : (n : ℕ) (s l : List ℕ) → Block w s → Bytes l → Bytes (run s n l)
     Bytes-run zero s l g b = rw (run-zero s l) Bytes-nil
     Bytes-run (suc n) s l g b =

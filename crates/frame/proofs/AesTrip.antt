@@ -14,7 +14,7 @@ use Rattle.cipher.specs.Fips197.{aesEncrypt}
 use Rattle.cipher.specs.Sp80038a.{blocks, ofb}
 use Rattle.cipher.specs.Sp80038b.{cmac, R128}
 use Rattle.cipher.proofs.ByteLists.{Block, Bytes-cons, Bytes-append, Bytes-take, Bytes-drop}
-use Rattle.cipher.proofs.Ciphers.{length-aes-ofb, aes-ofb-twice, Bytes-aes-ofb, aes-input-block, aes-cmac-block}
+use Rattle.cipher.proofs.Ciphers.{length-aes-ofb, length-aes-input, length-aes-cmac, aes-ofb-twice, Bytes-aes-ofb, aes-input-block}
 use Rattle.answer.specs.Number.{numberBytes}
 use Rattle.answer.specs.Outcome.{Outcome, accepted, row}
 use Rattle.answer.specs.Tests.{isnt, either, same}
@@ -26,23 +26,28 @@ use Rattle.answer.proofs.Equality.{same-equal}
 
 -- ---- pieces
 
--- the credentials that are 36 bytes
-module _ (c : List ℕ) (hc : length c ≡ 36) (bc : Bytes c) where
-  pub cipherKey-block : Block 16 (cipherKey c)
+-- the parts of credentials that are 36 bytes
+module _ (c : List ℕ) (hc : length c ≡ 36) where
+  cipherKey-long : length (cipherKey c) ≡ 16
   unfolding cipherKey
-  cipherKey-block = record { long = length-take-le 16 c (omega arith); bytes = Bytes-take 16 c bc }
+  cipherKey-long = length-take-le 16 c (omega arith)
 
-  pub macKey-block : Block 16 (macKey c)
+  macKey-long : length (macKey c) ≡ 16
   unfolding macKey
-  macKey-block = record { long = length-take-le 16 (drop 16 c) (rw length-drop (omega arith)); bytes = Bytes-take 16 (drop 16 c) (Bytes-drop 16 c bc) }
+  macKey-long = length-take-le 16 (drop 16 c) (rw length-drop (omega arith))
 
-  pub challenge3C-long : length (challenge3C c) ≡ 4
+  challenge3C-long : length (challenge3C c) ≡ 4
   unfolding challenge3C
   challenge3C-long = length-drop 32 c ∙ omega arith
 
-  pub challenge3C-bytes : Bytes (challenge3C c)
-  unfolding challenge3C
-  challenge3C-bytes = Bytes-drop 32 c bc
+  module _ (bc : Bytes c) where
+    cipherKey-block : Block 16 (cipherKey c)
+    unfolding cipherKey
+    cipherKey-block = record { long = cipherKey-long; bytes = Bytes-take 16 c bc }
+
+    challenge3C-bytes : Bytes (challenge3C c)
+    unfolding challenge3C
+    challenge3C-bytes = Bytes-drop 32 c bc
 
 pub numberBytes-bytes : (n : ℕ) → Bytes (numberBytes n)
 numberBytes-bytes n = Bytes-cons (n % 256) (n / 256 % 256 ∷ []) (mod-lt n (lit< tt)) (Bytes-cons (n / 256 % 256) [] (mod-lt (n / 256) (lit< tt)) (λ i. lit< tt))
@@ -60,6 +65,10 @@ numberBytes-of (x ∷ y ∷ s) b h =
     let hi : (x + y * 256) / 256 % 256 ≡ y = rw up (mod-eq-of-lt (b 1)) in
     rw (lo, hi)
 
+aesIv-long : (long code : ℕ) (number id c3 : List ℕ) → length number ≡ 2 → length id ≡ 6 → length c3 ≡ 4 → length (aesIv long code number id c3) ≡ 16
+unfolding aesIv
+aesIv-long long code number id c3 hn hi h3 = simp (length-append, length-drop, hn, hi, h3)
+
 pub aesIv-block : (long code : ℕ) (number id c3 : List ℕ) → long ≤ 243 → code < 256 → length number ≡ 2 → Bytes number → length id ≡ 6 → Bytes id → length c3 ≡ 4 → Bytes c3
     → Block 16 (aesIv long code number id c3)
 unfolding aesIv
@@ -68,22 +77,26 @@ aesIv-block long code number id c3 hl hc hn bn hi bi h3 b3 =
     let zeros : Bytes (0 ∷ 0 ∷ []) = Bytes-cons 0 (0 ∷ []) (lit< tt) (Bytes-cons 0 [] (lit< tt) (λ i. lit< tt)) in
     let bt : Bytes t = Bytes-append number _ bn (Bytes-append id _ bi (Bytes-append (drop 1 c3) (0 ∷ 0 ∷ []) (Bytes-drop 1 c3 b3) zeros)) in
     record {
-      long = simp (length-append, length-drop, hn, hi, h3);
+      long = aesIv-long long code number id c3 hn hi h3;
       bytes = Bytes-cons 1 ((long + 12) ∷ code ∷ t) (lit< tt) (Bytes-cons (long + 12) (code ∷ t) (omega arith) (Bytes-cons code t hc bt));
     }
 
 first-eight : (s : List ℕ) → length s ≡ 16 → length (take 8 s) ≡ 8
 first-eight s h = length-take-le 8 s (omega arith)
 
-pub aesMac-long : (key iv payload : List ℕ) → Block 16 key → length (aesMac key iv payload) ≡ 8
+aesMac-long : (key iv payload : List ℕ) → length key ≡ 16 → length (aesMac key iv payload) ≡ 8
 unfolding aesMac
 aesMac-long key iv payload k =
     let text : List ℕ = (0x19 ∷ (take 13 (drop 1 iv) ++ (length payload / 256 % 256 ∷ length payload % 256 ∷ []))) ++ payload in
-    first-eight (cmac (aesEncrypt key) 16 R128 text) (aes-cmac-block key k text .long)
+    first-eight (cmac (aesEncrypt key) 16 R128 text) (length-aes-cmac key k text)
 
 pub macInput-block : (key iv : List ℕ) (n : ℕ) → Block 16 key → Block 16 iv → Block 16 (macInput key iv n)
 unfolding macInput
 macInput-block key iv n k g = aes-input-block key k iv [] g (blocks 16 n)
+
+macInput-long : (key iv : List ℕ) (n : ℕ) → length key ≡ 16 → length iv ≡ 16 → length (macInput key iv n) ≡ 16
+unfolding macInput
+macInput-long key iv n k g = length-aes-input key k (blocks 16 n) iv g
 
 -- what AES data can carry: a number of 16 bits and up to 243 bytes
 pub record AesDomain (number : ℕ) (payload : List ℕ) : Type 0 where
@@ -91,17 +104,15 @@ pub record AesDomain (number : ℕ) (payload : List ℕ) : Type 0 where
   pub short : length payload ≤ 243
   pub bytes : Bytes payload
 
--- ---- opening what was sealed
+-- ---- the parts of sealed data, and its size: they go by the lengths of credentials and ID alone
 
-module _ (c id payload : List ℕ) (code number : ℕ) (hc : length c ≡ 36) (bc : Bytes c) (hi : length id ≡ 6) (bi : Bytes id) (ho : code < 256) (h : AesDomain number payload) where
+module _ (c id payload : List ℕ) (code number : ℕ) (hc : length c ≡ 36) (hi : length id ≡ 6) where
   iv : List ℕ
   iv = aesIv (length payload) code (numberBytes number) id (challenge3C c)
 
-  iv-block : Block 16 iv
+  iv-long : length iv ≡ 16
   unfolding iv
-  iv-block =
-      aesIv-block (length payload) code (numberBytes number) id (challenge3C c) (h .short) ho (numberBytes-long number) (numberBytes-bytes number) hi bi
-      (challenge3C-long c hc bc) (challenge3C-bytes c hc bc)
+  iv-long = aesIv-long (length payload) code (numberBytes number) id (challenge3C c) (numberBytes-long number) hi (challenge3C-long c hc)
 
   -- the three parts of the sealed data
   x : List ℕ
@@ -123,17 +134,17 @@ module _ (c id payload : List ℕ) (code number : ℕ) (hc : length c ≡ 36) (b
   unfolding sealed aesSealed x y mi mac iv
   sealed-is = refl
 
-  mi-block : Block 16 mi
+  mi-long : length mi ≡ 16
   unfolding mi
-  mi-block = macInput-block (cipherKey c) iv (length payload) (cipherKey-block c hc bc) iv-block
+  mi-long = macInput-long (cipherKey c) iv (length payload) (cipherKey-long c hc) iv-long
 
   x-long : length x ≡ length payload
   unfolding x
-  x-long = length-aes-ofb (cipherKey c) (cipherKey-block c hc bc) iv payload iv-block
+  x-long = length-aes-ofb (cipherKey c) (cipherKey-long c hc) iv payload iv-long
 
   y-long : length y ≡ 8
   unfolding y mac
-  y-long = length-aes-ofb (cipherKey c) (cipherKey-block c hc bc) mi (aesMac (macKey c) iv payload) mi-block ∙ aesMac-long (macKey c) iv payload (macKey-block c hc bc)
+  y-long = length-aes-ofb (cipherKey c) (cipherKey-long c hc) mi (aesMac (macKey c) iv payload) mi-long ∙ aesMac-long (macKey c) iv payload (macKey-long c hc)
 
   sealed-len : length sealed ≡ length payload + 10
   sealed-len =
@@ -157,49 +168,61 @@ module _ (c id payload : List ℕ) (code number : ℕ) (hc : length c ≡ 36) (b
   unfolding openedIv iv
   iv-is = ap₂ (λ (n : ℕ) (b : List ℕ). aesIv n code b id (challenge3C c)) n-is sealed-front
 
-  twice : (i l : List ℕ) → Block 16 i → ofb (aesEncrypt (cipherKey c)) 16 i (ofb (aesEncrypt (cipherKey c)) 16 i l) ≡ l
-  twice i l g = aes-ofb-twice (cipherKey c) (cipherKey-block c hc bc) i l g
+  -- opening
+  module _ (bc : Bytes c) (bi : Bytes id) (ho : code < 256) (h : AesDomain number payload) where
+    iv-block : Block 16 iv
+    unfolding iv
+    iv-block =
+        aesIv-block (length payload) code (numberBytes number) id (challenge3C c) (h .short) ho (numberBytes-long number) (numberBytes-bytes number) hi bi
+        (challenge3C-long c hc) (challenge3C-bytes c hc bc)
 
-  payload-is : openedPayload c code id sealed ≡ payload
-  unfolding openedPayload x
-  payload-is =
-      let p : take (length sealed - 10) (drop 2 sealed) ≡ x = ap₂ (λ (n : ℕ) (l : List ℕ). take n l) n-is sealed-rest ∙ take-at x y (length payload) x-long in
-      ap₂ (λ (i l : List ℕ). ofb (aesEncrypt (cipherKey c)) 16 i l) iv-is p ∙ twice iv payload iv-block
+    mi-block : Block 16 mi
+    unfolding mi
+    mi-block = macInput-block (cipherKey c) iv (length payload) (cipherKey-block c hc bc) iv-block
 
-  mac-is : openedMac c code id sealed ≡ mac
-  unfolding openedMac y mi
-  mac-is =
-      let e : length sealed - 8 ≡ 2 + length payload = omega (arith, sealed-len) in
-      let p : drop (length sealed - 8) sealed ≡ y =
-      ap (λ (n : ℕ). drop n sealed) e ∙ sym (drop-drop (length payload) 2 sealed) ∙ ap (drop (length payload)) sealed-rest ∙ drop-at x y (length payload) x-long in
-      ap₂ (λ (i l : List ℕ). ofb (aesEncrypt (cipherKey c)) 16 i l) (ap₂ (λ (v : List ℕ) (n : ℕ). macInput (cipherKey c) v n) iv-is n-is) p ∙ twice mi mac mi-block
+    twice : (i l : List ℕ) → Block 16 i → ofb (aesEncrypt (cipherKey c)) 16 i (ofb (aesEncrypt (cipherKey c)) 16 i l) ≡ l
+    twice i l g = aes-ofb-twice (cipherKey c) (cipherKey-block c hc bc) i l g
 
-  number-is : getD sealed 0 0 + getD sealed 1 0 * 256 ≡ number
-  number-is = ap (λ (l : List ℕ). getD l 0 0 + getD l 1 0 * 256) sealed-is ∙ omega (arith, h .small)
+    payload-is : openedPayload c code id sealed ≡ payload
+    unfolding openedPayload x
+    payload-is =
+        let p : take (length sealed - 10) (drop 2 sealed) ≡ x = ap₂ (λ (n : ℕ) (l : List ℕ). take n l) n-is sealed-rest ∙ take-at x y (length payload) x-long in
+        ap₂ (λ (i l : List ℕ). ofb (aesEncrypt (cipherKey c)) 16 i l) iv-is p ∙ twice iv payload iv-block
 
-  pub aes-opens-sealed : (room : ℕ) → length payload ≤ room → aesOpening c code id (aesSealed c code number id payload) room ≡ accepted number payload
-  unfolding aesOpenRows sealed mac
-  aes-opens-sealed room hr =
-      let least : 10 ≤ length sealed = omega (arith, sealed-len) in
-      let most : length sealed ≤ 253 = omega (arith, sealed-len, h .short) in
-      let fits : length (openedPayload c code id sealed) ≤ room = rw payload-is hr in
-      let macs : openedMac c code id sealed ≡ aesMac (macKey c) (openedIv c code id sealed) (openedPayload c code id sealed) =
-      mac-is ∙ sym (ap₂ (aesMac (macKey c)) iv-is payload-is) in
-      by-rows c id sealed code room
-      ∙ decide-false (all-rows c id sealed code room) _ (
-        either-of _ _ (isnt-of _ (eq-eqb _ _ hi)) (isnt-of _ (eq-eqb _ _ hc)),
-        (
-          le-ltb _ _ least,
+    mac-is : openedMac c code id sealed ≡ mac
+    unfolding openedMac y mi
+    mac-is =
+        let e : length sealed - 8 ≡ 2 + length payload = omega (arith, sealed-len) in
+        let p : drop (length sealed - 8) sealed ≡ y =
+        ap (λ (n : ℕ). drop n sealed) e ∙ sym (drop-drop (length payload) 2 sealed) ∙ ap (drop (length payload)) sealed-rest ∙ drop-at x y (length payload) x-long in
+        ap₂ (λ (i l : List ℕ). ofb (aesEncrypt (cipherKey c)) 16 i l) (ap₂ (λ (v : List ℕ) (n : ℕ). macInput (cipherKey c) v n) iv-is n-is) p ∙ twice mi mac mi-block
+
+    number-is : getD sealed 0 0 + getD sealed 1 0 * 256 ≡ number
+    number-is = ap (λ (l : List ℕ). getD l 0 0 + getD l 1 0 * 256) sealed-is ∙ omega (arith, h .small)
+
+    pub aes-opens-sealed : (room : ℕ) → length payload ≤ room → aesOpening c code id (aesSealed c code number id payload) room ≡ accepted number payload
+    unfolding aesOpenRows sealed mac
+    aes-opens-sealed room hr =
+        let least : 10 ≤ length sealed = omega (arith, sealed-len) in
+        let most : length sealed ≤ 253 = omega (arith, sealed-len, h .short) in
+        let fits : length (openedPayload c code id sealed) ≤ room = rw payload-is hr in
+        let macs : openedMac c code id sealed ≡ aesMac (macKey c) (openedIv c code id sealed) (openedPayload c code id sealed) =
+        mac-is ∙ sym (ap₂ (aesMac (macKey c)) iv-is payload-is) in
+        by-rows c id sealed code room
+        ∙ decide-false (all-rows c id sealed code room) _ (
+          either-of _ _ (isnt-of _ (eq-eqb _ _ hi)) (isnt-of _ (eq-eqb _ _ hc)),
           (
-            le-ltb _ _ most,
+            le-ltb _ _ least,
             (
-              isnt-of _ (same-of _ _ macs),
-              (le-ltb _ _ fits, tt),
+              le-ltb _ _ most,
+              (
+                isnt-of _ (same-of _ _ macs),
+                (le-ltb _ _ fits, tt),
+              ),
             ),
           ),
-        ),
-      )
-      ∙ ap₂ accepted number-is payload-is
+        )
+        ∙ ap₂ accepted number-is payload-is
 
 -- ---- what opens was sealed
 
@@ -247,7 +270,7 @@ module _ (c id d : List ℕ) (code room : ℕ) (bc : Bytes c) (bi : Bytes id) (h
   unfolding v openedIv
   v-block =
       aesIv-block (length d - 10) code (take 2 d) id (challenge3C c) (omega (arith, d-most)) ho front-long (Bytes-take 2 d bd) id-long bi
-      (challenge3C-long c c-long bc) (challenge3C-bytes c c-long bc)
+      (challenge3C-long c c-long) (challenge3C-bytes c c-long bc)
 
   k : Block 16 (cipherKey c)
   k = cipherKey-block c c-long bc
@@ -265,7 +288,7 @@ module _ (c id d : List ℕ) (code room : ℕ) (bc : Bytes c) (bi : Bytes id) (h
 
   pub aes-payload-long : length (openedPayload c code id d) ≡ length d - 10
   unfolding openedPayload xs v
-  aes-payload-long = length-aes-ofb (cipherKey c) k v xs v-block ∙ xs-long
+  aes-payload-long = length-aes-ofb (cipherKey c) (k .long) v xs (v-block .long) ∙ xs-long
 
   pub aes-in-domain : AesDomain (getD d 0 0 + getD d 1 0 * 256) (openedPayload c code id d)
   unfolding openedPayload v
@@ -317,7 +340,7 @@ module _ (c id : List ℕ) (code room : ℕ) (hc : length c ≡ 36) (bc : Bytes 
   -- sealed data opens as what was sealed, wherever there is room for it
   pub aes-opens : (number : ℕ) (payload : List ℕ) → AesDomain number payload → length payload ≤ room
       → aesOpening c code id (aesSealed c code number id payload) room ≡ accepted number payload
-  aes-opens number payload h l = aes-opens-sealed c id payload code number hc bc hi bi ho h room l
+  aes-opens number payload h l = aes-opens-sealed c id payload code number hc hi bc bi ho h room l
 
   -- data that opens as a number and a payload is their sealing
   pub aes-sealed : (d : List ℕ) → Bytes d → (number : ℕ) (payload : List ℕ) → aesOpening c code id d room ≡ accepted number payload

@@ -15,7 +15,7 @@ use Rattle.cipher.specs.Fips46.{desEncrypt, desDecrypt}
 use Rattle.cipher.specs.Fold.{underEach, underEachBack}
 use Rattle.cipher.specs.Sp80038a.{cbcEncrypt, cbcDecrypt}
 use Rattle.cipher.proofs.ByteLists.{Block, Bytes-cons, Bytes-append, Bytes-take, Bytes-drop, Bytes-replicate}
-use Rattle.cipher.proofs.Ciphers.{des-cbc-decrypt-encrypt, des-cbc-encrypt-decrypt, length-des-cbc, length-des-cbc-back, Bytes-des-cbc-back, des-under-block, des-back-under, des-under-back}
+use Rattle.cipher.proofs.Ciphers.{des-cbc-decrypt-encrypt, des-cbc-encrypt-decrypt, length-des-cbc, length-des-cbc-back, Bytes-des-cbc-back, length-des-under, des-under-block, des-back-under, des-under-back}
 use Rattle.answer.specs.Number.{numberOf}
 use Rattle.answer.specs.Outcome.{Outcome, accepted, row, decide}
 use Rattle.frame.specs.Padding.{padCount, pad}
@@ -34,6 +34,11 @@ pub macStart-block : (total code : ℕ) → code < 256 → Block 8 (macStart tot
 unfolding macStart
 macStart-block total code h = record { long = refl; bytes = Bytes-cons (total % 256) (code ∷ replicate 6 0) (mod-lt total (lit< tt)) (Bytes-cons code (replicate 6 0) h (Bytes-replicate 6 0 (lit< tt))) }
 
+-- eight bytes, whatever the text
+pub length-desMac : (code : ℕ) (plain : List ℕ) → length (desMac code plain) ≡ 8
+unfolding desMac macStart
+length-desMac code plain = length-des-under plain _ refl
+
 pub desMac-block : (code : ℕ) (plain : List ℕ) → code < 256 → Block 8 (desMac code plain)
 unfolding desMac
 desMac-block code plain h = des-under-block plain _ (macStart-block (length plain + 10) code h)
@@ -48,15 +53,11 @@ mac-behind code plain m h =
     rw (e, n, take-at plain m (length plain) refl, drop-at plain m (length plain) refl)
 
 -- the MAC that stands behind a plain text of whole blocks is recovered
-module _ (code : ℕ) (plain : List ℕ) (hc : code < 256) where
-  pub length-whole : length (plain ++ desMac code plain) ≡ length plain + 8
-  length-whole = length-append plain _ ∙ ap (λ (k : ℕ). length plain + k) (desMac-block code plain hc .long)
-
-  pub mac-recovered : macHolds code (plain ++ desMac code plain) ≡ true
-  unfolding desMac
-  mac-recovered =
-      mac-behind code plain (desMac code plain) (desMac-block code plain hc .long)
-      ∙ same-of _ _ (des-back-under plain (macStart (length plain + 10) code) (macStart-block (length plain + 10) code hc))
+pub mac-recovered : (code : ℕ) (plain : List ℕ) → code < 256 → macHolds code (plain ++ desMac code plain) ≡ true
+unfolding desMac
+mac-recovered code plain hc =
+    mac-behind code plain (desMac code plain) (length-desMac code plain)
+    ∙ same-of _ _ (des-back-under plain (macStart (length plain + 10) code) (macStart-block (length plain + 10) code hc))
 
 pub Bytes-header : (number : ℕ) (id : List ℕ) → Bytes id → Bytes (header number id)
 unfolding header
@@ -71,10 +72,9 @@ pub id-header : (number : ℕ) (id rest : List ℕ) → length id ≡ 6 → idOf
 unfolding idOf header
 id-header number id rest h = take-at id rest 6 h
 
--- ---- opening what was sealed: any payload up to 232 bytes comes back padded
+-- ---- the parts of sealed data, and its size: they go by the length of the ID alone
 
-module _ (key id payload : List ℕ) (code number : ℕ) (hk : length key ≡ 8) (hi : length id ≡ 6) (bi : Bytes id) (hc : code < 256) (hn : number < 65536)
-    (hp : length payload ≤ 232) (bp : Bytes payload) where
+module _ (key id payload : List ℕ) (code number : ℕ) (hi : length id ≡ 6) where
   plain : List ℕ
   plain = header number id ++ pad payload
 
@@ -86,94 +86,97 @@ module _ (key id payload : List ℕ) (code number : ℕ) (hk : length key ≡ 8)
   unfolding plain
   plain-long = length-append (header number id) (pad payload) ∙ ap₂ _+_ (length-header number id hi) (length-pad payload)
 
-  plain-bytes : Bytes plain
-  unfolding plain
-  plain-bytes = Bytes-append (header number id) (pad payload) (Bytes-header number id bi) (Bytes-pad payload bp)
-
   -- the plain text with its MAC
   full : List ℕ
   full = plain ++ desMac code plain
 
   full-long : length full ≡ 16 + (length payload + padCount (length payload))
   unfolding full
-  full-long = length-whole code plain hc ∙ omega (arith, plain-long)
+  full-long = length-append plain (desMac code plain) ∙ omega (arith, plain-long, length-desMac code plain)
 
   full-blocks : length full ≡ length full / 8 * 8
   full-blocks = omega (arith, full-long, padCount-whole (length payload))
-
-  full-bytes : Bytes full
-  unfolding full
-  full-bytes = Bytes-append plain (desMac code plain) plain-bytes (desMac-block code plain hc .bytes)
 
   sealed-is : desSealed key code number id payload ≡ cbcEncrypt (desEncrypt key) 8 (replicate 8 0) full
   unfolding desSealed desSeal full
   sealed-is = ap (λ (p : List ℕ). cbcEncrypt (desEncrypt key) 8 (replicate 8 0) (p ++ desMac code p)) plain-is
 
+  sealed-long : length (desSealed key code number id payload) ≡ 16 + (length payload + padCount (length payload))
+  sealed-long = ap length sealed-is ∙ length-des-cbc key full (length full / 8) full-blocks ∙ full-long
+
   pub des-sealed-long : length (desSealed key code number id payload) ≡ desSize (length payload)
   unfolding desSize
   des-sealed-long =
       let e : padCount (length payload + 8) ≡ padCount (length payload) = ap padCount (add-comm (length payload) 8) ∙ padCount-header (length payload) in
-      ap length sealed-is ∙ length-des-cbc key full full-bytes (length full / 8) full-blocks ∙ full-long ∙ rw e (omega arith)
+      sealed-long ∙ rw e (omega arith)
 
-  opened-is : desPlain key (desSealed key code number id payload) ≡ full
-  unfolding desPlain
-  opened-is = ap (λ (d : List ℕ). cbcDecrypt (desDecrypt key) 8 (replicate 8 0) d) sealed-is ∙ des-cbc-decrypt-encrypt key full full-bytes (length full / 8) full-blocks
+  -- opening: any payload up to 232 bytes comes back padded
+  module _ (hk : length key ≡ 8) (bi : Bytes id) (hc : code < 256) (hn : number < 65536) (hp : length payload ≤ 232) (bp : Bytes payload) where
+    full-bytes : Bytes full
+    unfolding full plain
+    full-bytes =
+        Bytes-append (header number id ++ pad payload) (desMac code plain)
+        (Bytes-append (header number id) (pad payload) (Bytes-header number id bi) (Bytes-pad payload bp))
+        (desMac-block code plain hc .bytes)
 
-  full-split : full ≡ header number id ++ (pad payload ++ desMac code plain)
-  unfolding full plain
-  full-split = append-assoc (header number id) (pad payload) (desMac code plain)
+    opened-is : desPlain key (desSealed key code number id payload) ≡ full
+    unfolding desPlain
+    opened-is = ap (λ (d : List ℕ). cbcDecrypt (desDecrypt key) 8 (replicate 8 0) d) sealed-is ∙ des-cbc-decrypt-encrypt key full full-bytes (length full / 8) full-blocks
 
-  payload-is : payloadOf full ≡ pad payload
-  unfolding payloadOf
-  payload-is =
-      let n : length full - 16 ≡ length (pad payload) = omega (arith, full-long, length-pad payload) in
-      let d : drop 8 full ≡ pad payload ++ desMac code plain = ap (drop 8) full-split ∙ drop-at (header number id) (pad payload ++ desMac code plain) 8 (length-header number id hi) in
-      rw (n, d) (take-at (pad payload) (desMac code plain) (length (pad payload)) refl)
+    full-split : full ≡ header number id ++ (pad payload ++ desMac code plain)
+    unfolding full plain
+    full-split = append-assoc (header number id) (pad payload) (desMac code plain)
 
-  number-is : numberOf full ≡ number
-  number-is = ap numberOf full-split ∙ number-header number id _ hn
+    payload-is : payloadOf full ≡ pad payload
+    unfolding payloadOf
+    payload-is =
+        let n : length full - 16 ≡ length (pad payload) = omega (arith, full-long, length-pad payload) in
+        let d : drop 8 full ≡ pad payload ++ desMac code plain = ap (drop 8) full-split ∙ drop-at (header number id) (pad payload ++ desMac code plain) 8 (length-header number id hi) in
+        rw (n, d) (take-at (pad payload) (desMac code plain) (length (pad payload)) refl)
 
-  id-is : idOf full ≡ id
-  id-is = ap idOf full-split ∙ id-header number id _ hi
+    number-is : numberOf full ≡ number
+    number-is = ap numberOf full-split ∙ number-header number id _ hn
 
-  mac-is : macHolds code full ≡ true
-  unfolding full
-  mac-is = mac-recovered code plain hc
+    id-is : idOf full ≡ id
+    id-is = ap idOf full-split ∙ id-header number id _ hi
 
-  -- with room for the padded payload, the opening gives number and padded payload
-  pub des-opens-padded : (room : ℕ) → length (pad payload) ≤ room → desOpening key code id (desSealed key code number id payload) room ≡ accepted number (pad payload)
-  unfolding openRows plainRows
-  des-opens-padded room h =
-      let l : length (desSealed key code number id payload) ≡ 16 + (length payload + padCount (length payload)) =
-      ap length sealed-is ∙ length-des-cbc key full full-bytes (length full / 8) full-blocks ∙ full-long in
-      let S : List ℕ = desSealed key code number id payload in
-      let whole : length S % 8 ≡ 0 = omega (arith, padCount-whole (length payload)) in
-      let long : 16 ≤ length S = omega arith in
-      let short : length S ≤ 253 = omega (arith, padCount-whole (length payload), padCount-small (length payload)) in
-      let fits : length (payloadOf full) ≤ room = rw payload-is h in
-      let g : decide (all-rows key id S code room) (accepted (numberOf (desPlain key S)) (payloadOf (desPlain key S))) ≡ accepted number (pad payload) =
-      rw opened-is
-      (decide-false _ _ (
-        either-of _ _ (isnt-of _ (eq-eqb _ _ hi)) (isnt-of _ (eq-eqb _ _ hk)),
-        (
-          isnt-of _ (eq-eqb _ _ whole),
+    mac-is : macHolds code full ≡ true
+    unfolding full
+    mac-is = mac-recovered code plain hc
+
+    -- with room for the padded payload, the opening gives number and padded payload
+    pub des-opens-padded : (room : ℕ) → length (pad payload) ≤ room → desOpening key code id (desSealed key code number id payload) room ≡ accepted number (pad payload)
+    unfolding openRows plainRows
+    des-opens-padded room h =
+        let l : length (desSealed key code number id payload) ≡ 16 + (length payload + padCount (length payload)) = sealed-long in
+        let S : List ℕ = desSealed key code number id payload in
+        let whole : length S % 8 ≡ 0 = omega (arith, padCount-whole (length payload)) in
+        let long : 16 ≤ length S = omega arith in
+        let short : length S ≤ 253 = omega (arith, padCount-whole (length payload), padCount-small (length payload)) in
+        let fits : length (payloadOf full) ≤ room = rw payload-is h in
+        let g : decide (all-rows key id S code room) (accepted (numberOf (desPlain key S)) (payloadOf (desPlain key S))) ≡ accepted number (pad payload) =
+        rw opened-is
+        (decide-false _ _ (
+          either-of _ _ (isnt-of _ (eq-eqb _ _ hi)) (isnt-of _ (eq-eqb _ _ hk)),
           (
-            le-ltb _ _ long,
+            isnt-of _ (eq-eqb _ _ whole),
             (
-              le-ltb _ _ short,
+              le-ltb _ _ long,
               (
-                isnt-of _ mac-is,
+                le-ltb _ _ short,
                 (
-                  isnt-of _ (same-of _ _ id-is),
-                  (le-ltb _ _ fits, tt),
+                  isnt-of _ mac-is,
+                  (
+                    isnt-of _ (same-of _ _ id-is),
+                    (le-ltb _ _ fits, tt),
+                  ),
                 ),
               ),
             ),
           ),
-        ),
-      )
-      ∙ ap₂ accepted number-is payload-is) in
-      by-rows key id S code room ∙ g
+        )
+        ∙ ap₂ accepted number-is payload-is) in
+        by-rows key id S code room ∙ g
 
 -- ---- what opens was sealed
 
@@ -242,7 +245,7 @@ module _ (key id d : List ℕ) (code room : ℕ) (hc : code < 256) (bd : Bytes d
 
   p-long : length (desPlain key d) ≡ length d
   unfolding desPlain
-  p-long = length-des-cbc-back key d bd (length d / 8) d-blocks
+  p-long = length-des-cbc-back key d (length d / 8) d-blocks
 
   p-bytes : Bytes (desPlain key d)
   unfolding desPlain
@@ -304,7 +307,7 @@ module _ (key id : List ℕ) (code room : ℕ) (hk : length key ≡ 8) (hi : len
   des-opens number payload h l =
       let e : pad payload ≡ payload = pad-none payload (h .whole) in
       let f : length (pad payload) ≤ room = rw e l in
-      des-opens-padded key id payload code number hk hi bi hc (h .small) (h .short) (h .bytes) room f ∙ ap (accepted number) e
+      des-opens-padded key id payload code number hi hk bi hc (h .small) (h .short) (h .bytes) room f ∙ ap (accepted number) e
 
   -- data that opens as a number and a payload is their sealing
   pub des-sealed : (d : List ℕ) → Bytes d → (number : ℕ) (payload : List ℕ) → desOpening key code id d room ≡ accepted number payload

@@ -106,7 +106,7 @@ module _ (c id : List ℕ) (code : ℕ) (hk : length c ≡ 8) (hi : length id �
       record {
         seals = λ number room payload h l. des-seals id payload code number room c (record { six = hi; all = hk; short = h .short; fits = l });
         seals-not = λ number room payload h l. des-seals-16 id payload code number room c hi hk (h .short) l;
-        size = λ number payload h. des-sealed-long c id payload code number hk hi bi hc (h .small) (h .short) (h .bytes);
+        size = λ number payload h. des-sealed-long c id payload code number hi;
         opens-exactly = λ d room bd n. exactly-here 1 c id d code room (des-exactly d room bd) (des-refuses d room bd) (des-short d room bd) n;
         refuses-exactly = λ d room bd n. refuses-here 1 c id d code room (des-exactly d room bd) (des-refuses d room bd) (des-short d room bd) n;
         room-exactly = λ d room bd. (des-large d room bd, λ t. ap (λ (o : Outcome). o .number) (des-short d room bd (t .number) (t .payload) (t .inside) (t .is) (t .larger)) ∙ refused-number 16);
@@ -154,7 +154,7 @@ module _ (c id : List ℕ) (code : ℕ) (hc : length c ≡ 36) (bc : Bytes c) (h
       record {
         seals = λ number room payload h l. aes-seals id payload code number room c (record { six = hi; all = hc; short = h .short; fits = l });
         seals-not = λ number room payload h l. aes-seals-16 id payload code number room c hi hc (h .short) l;
-        size = λ number payload h. aes-sealed-long c id payload code number hc bc hi bi ho (to-aes number payload h);
+        size = λ number payload h. aes-sealed-long c id payload code number hc hi;
         opens-exactly = λ d room bd n. exactly-here 2 c id d code room (aes-exactly d room bd) (aes-refuses d room bd) (aes-short d room bd) n;
         refuses-exactly = λ d room bd n. refuses-here 2 c id d code room (aes-exactly d room bd) (aes-refuses d room bd) (aes-short d room bd) n;
         room-exactly = λ d room bd. (aes-large d room bd, λ t. ap (λ (o : Outcome). o .number) (aes-short d room bd (t .number) (t .payload) (t .inside) (t .is) (t .larger)) ∙ refused-number 16);
@@ -225,7 +225,7 @@ module _ (c id : List ℕ) (code : ℕ) (bc : Bytes c) (bi : Bytes id) (ho : cod
   des-again z =
       let s = des-seals-only id payload code number room c z in
       let l : length (pad payload) ≤ 256 = omega (arith, length-pad payload, padCount-small (length payload), s .short) in
-      rw (des-seals id payload code number room c s) (ap (λ (o : Outcome). o .number) (des-opens-padded c id payload code number (s .all) (s .six) bi ho hn (s .short) bp 256 l))
+      rw (des-seals id payload code number room c s) (ap (λ (o : Outcome). o .number) (des-opens-padded c id payload code number (s .six) (s .all) bi ho hn (s .short) bp 256 l))
 
   aes-again : sealing 2 c code number id payload room .number ≡ 0 → opening 2 c code id (sealing 2 c code number id payload room .bytes) 256 .number ≡ 0
   unfolding sealing opening byScheme choose accepted

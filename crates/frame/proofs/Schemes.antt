@@ -1,19 +1,21 @@
 -- One call for both schemes: what a scheme mark chooses, and the forecast. Assumes nothing.
-use mathlib.Core.Path.{_≡_, refl, ap, _∙_}
+use mathlib.Core.Path.{_≡_, refl, sym, ap, _∙_}
 use mathlib.Core.Bool.{Bool, true, false}
 use mathlib.Core.List.{List, [], _∷_}
 use mathlib.Core.Logic.{_⊎_, inl, inr}
-use Prim.Native.Nat.{ℕ, _≤_, _<_}
+use Prim.Native.Nat.{ℕ, _+_, _≤_, _<_}
 use native.Mathlib.Omega.{arith}
-use borrow.Author.Tests.{eqb-true, ne-eqb, lt-ltb, le-ltb}
-use lib.Dec.{eqb, ltb, lit<}
+use borrow.Author.Tests.{eqb-true, ne-eqb, lt-ltb, le-ltb, ltb-false}
+use lib.Dec.{eqb}
 use Rattle.answer.specs.declared.answer.Answer.{Answer}
-use Rattle.answer.specs.Outcome.{Outcome, refused, row, choose, firstOf}
-use Rattle.frame.specs.AesFrame.{aesSize, aesSealing, aesOpening}
+use Rattle.answer.specs.Outcome.{Outcome, refused, choose, firstOf}
+use Rattle.frame.specs.AesFrame.{aesSealing, aesOpening}
 use Rattle.frame.specs.DesFrame.{desSize, desSealing, desOpening}
-use Rattle.frame.specs.Scheme.{byScheme, sealing, opening, framing, responding, sealedSize, longest, Forecast}
-use Rattle.answer.specs.Tests.{isnt, either}
-use Rattle.answer.proofs.Rows.{Refused}
+use Rattle.frame.specs.Forecast.{upToEights, forecastSize, forecastRows, forecasting}
+use Rattle.frame.specs.Padding.{padCount}
+use Rattle.frame.specs.Scheme.{byScheme, sealing, opening, framing, responding, longest}
+use Rattle.answer.specs.Tests.{isnt, either, both}
+use Rattle.answer.proofs.Rows.{Refused, numbered, first-passes, isnt-false}
 use Rattle.answer.proofs.Refusals.{Whole, refused-whole, choose-whole, decide-whole, accepted-whole, delivering-whole}
 use Rattle.frame.proofs.WorkBlocks.{framing-refusal}
 
@@ -67,39 +69,59 @@ opening-whole scheme code room c id d =
 
 -- ---- the forecast
 
-module _ (scheme n : ℕ) (r : Answer) where
-  -- what `forecast` ensures
-  abbrev Forecasts : Type 0
-  Forecasts = Forecast scheme n (r .number) (r .length) × (r .«transaction_number» ≡ 0)
+module _ (scheme n : ℕ) where
+  -- by the number of the first row that holds
+  forecast-by : (k : ℕ) → firstOf (forecastRows scheme n) ≡ k → (forecasting scheme n .number ≡ k) × (forecasting scheme n .size ≡ choose (eqb k 0) (forecastSize scheme n) 0)
+  unfolding forecasting
+  forecast-by k e = (e, ap (λ (j : ℕ). choose (eqb j 0) (forecastSize scheme n) 0) e)
 
-  abbrev forecastNumber : ℕ
-  forecastNumber = firstOf (row 17 (isnt (either (eqb scheme 1) (eqb scheme 2))) ∷ row 12 (ltb (longest scheme) n) ∷ [])
+  -- of a mark that is neither
+  pub foretold-17 : (scheme ≡ 1 → ⊥) → (scheme ≡ 2 → ⊥) → (forecasting scheme n .number ≡ 17) × (forecasting scheme n .size ≡ 0)
+  unfolding forecastRows firstOf choose isnt either
+  foretold-17 h i = forecast-by 17 (rw (ne-eqb scheme 1 h, ne-eqb scheme 2 i))
 
-  forecast-refused : (k : ℕ) → k ≡ forecastNumber → 0 < k → Refused k r → Forecasts
-  forecast-refused k e h f =
-      (record { number-is = f .0 ∙ e; least = λ z. absurd (omega (arith, f .0)); most = λ z. absurd (omega (arith, f .0)); nothing = λ z. f .1 }, f .2)
+  module _ (known : either (eqb scheme 1) (eqb scheme 2) ≡ true) where
+    pub foretold-12 : longest scheme < n → (forecasting scheme n .number ≡ 12) × (forecasting scheme n .size ≡ 0)
+    unfolding forecastRows firstOf choose isnt
+    foretold-12 h = forecast-by 12 (rw (known, lt-ltb (longest scheme) n h))
 
-  pub forecast-unknown : (scheme ≡ 1 → ⊥) → (scheme ≡ 2 → ⊥) → Refused 17 r → Forecasts
-  unfolding firstOf choose isnt either
-  forecast-unknown h i = forecast-refused 17 (rw (ne-eqb scheme 1 h, ne-eqb scheme 2 i)) (lit< tt)
+    pub foretold-size : n ≤ longest scheme → (forecasting scheme n .number ≡ 0) × (forecasting scheme n .size ≡ forecastSize scheme n)
+    unfolding forecastRows firstOf choose isnt
+    foretold-size h = forecast-by 0 (rw (known, le-ltb (longest scheme) n h))
 
-  module _ (most : ℕ) (e : longest scheme ≡ most) (known : either (eqb scheme 1) (eqb scheme 2) ≡ true) where
-    pub forecast-long : most < n → Refused 12 r → Forecasts
-    unfolding firstOf choose isnt
-    forecast-long h = forecast-refused 12 (rw (known, e, lt-ltb most n h)) (lit< tt)
+  -- a forecast of 0 has a known mark and a payload that is not too long
+  pub foretold-only : forecasting scheme n .number ≡ 0 → (either (eqb scheme 1) (eqb scheme 2) ≡ true) × (n ≤ longest scheme)
+  unfolding forecasting forecastRows numbered both
+  foretold-only z =
+      let a = first-passes (forecastRows scheme n) (forecasting scheme n .number) refl refl z in
+      (isnt-false _ (a .0), ltb-false _ _ (a .1 .0))
 
-    pub forecast-sized : n ≤ most → (r .number ≡ 0) × (r .length ≡ sealedSize scheme n) × (r .«transaction_number» ≡ 0) → Forecasts
-    unfolding firstOf choose isnt
-    forecast-sized h f =
-        (record { number-is = f .0 ∙ rw (known, e, le-ltb most n h); least = λ z. omega (arith, f .1); most = λ z. omega (arith, f .1); nothing = λ z. absurd (z (f .0)) }, f .2)
+  module _ (r : Answer) where
+    -- what `forecast` ensures
+    abbrev Forecasts : Type 0
+    Forecasts = (r .number ≡ forecasting scheme n .number) × (r .length ≡ forecasting scheme n .size) × (r .«transaction_number» ≡ 0)
 
-  pub longest-des : scheme ≡ 1 → (longest scheme ≡ 232) × (either (eqb scheme 1) (eqb scheme 2) ≡ true) × (sealedSize scheme n ≡ desSize n)
-  unfolding longest sealedSize choose either
-  longest-des e = rw e (refl, refl, refl)
+    -- the answer and the forecast have the same number and size
+    forecasts : (k size : ℕ) → (forecasting scheme n .number ≡ k) × (forecasting scheme n .size ≡ size) → (r .number ≡ k) × (r .length ≡ size) × (r .«transaction_number» ≡ 0) → Forecasts
+    forecasts k size e f = (f .0 ∙ sym (e .0), f .1 ∙ sym (e .1), f .2)
 
-  pub longest-aes : scheme ≡ 2 → (longest scheme ≡ 243) × (either (eqb scheme 1) (eqb scheme 2) ≡ true) × (sealedSize scheme n ≡ aesSize n)
-  unfolding longest sealedSize choose either
-  longest-aes e = rw e (refl, refl, refl)
+    pub forecast-unknown : (scheme ≡ 1 → ⊥) → (scheme ≡ 2 → ⊥) → Refused 17 r → Forecasts
+    forecast-unknown h i = forecasts 17 0 (foretold-17 h i)
+
+    pub forecast-long : either (eqb scheme 1) (eqb scheme 2) ≡ true → longest scheme < n → Refused 12 r → Forecasts
+    forecast-long known h = forecasts 12 0 (foretold-12 known h)
+
+    pub forecast-sized : either (eqb scheme 1) (eqb scheme 2) ≡ true → n ≤ longest scheme → (r .number ≡ 0) × (r .length ≡ forecastSize scheme n) × (r .«transaction_number» ≡ 0) → Forecasts
+    forecast-sized known h = forecasts 0 (forecastSize scheme n) (foretold-size known h)
+
+  -- what a mark fixes
+  pub forecast-des : scheme ≡ 1 → (longest scheme ≡ 232) × (either (eqb scheme 1) (eqb scheme 2) ≡ true) × (forecastSize scheme n ≡ desSize n)
+  unfolding longest forecastSize upToEights desSize padCount choose either
+  forecast-des e = rw e (refl, refl, omega arith)
+
+  pub forecast-aes : scheme ≡ 2 → (longest scheme ≡ 243) × (either (eqb scheme 1) (eqb scheme 2) ≡ true) × (forecastSize scheme n ≡ n + 10)
+  unfolding longest forecastSize choose either
+  forecast-aes e = rw e (refl, refl, refl)
 
 -- the longest payload of each scheme
 pub longest-is-des : (scheme : ℕ) → scheme ≡ 1 → longest scheme ≡ 232

@@ -48,7 +48,7 @@ module _ (key id sealed : List ℕ) (code : ℕ) where
     short-payload =
         let w : length sealed % 8 ≡ 0 = is-number (length sealed % 8) 0 (h .1 .0) in
         let s : length sealed ≤ 253 = ltb-false 253 (length sealed) (h .1 .1 .1 .0) in
-        let l : length (desPlain key sealed) ≡ length sealed = length-des-cbc-back key sealed bytes (length sealed / 8) (omega arith) in
+        let l : length (desPlain key sealed) ≡ length sealed = length-des-cbc-back key sealed (length sealed / 8) (omega arith) in
         rw length-take (omega arith)
 
     opened : desOpening key code id sealed 256 ≡ accepted (numberOf (desPlain key sealed)) (payloadOf (desPlain key sealed))

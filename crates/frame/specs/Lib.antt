@@ -1,6 +1,7 @@
 pub mod AesFrame
 pub mod Authentication2
 pub mod DesFrame
+pub mod Forecast
 pub mod Inverse
 pub mod Package
 pub mod Padding

@@ -1,14 +1,12 @@
--- Document 01, Turned-down calls (marks), Layouts (response frame), Carried and added (size forecast): both schemes. A scheme mark is 1 for DES
--- and 2 for AES, and every other gives 17. The credentials are the DES session key, or cipher key, MAC key and Challenge 3C. Assumes nothing.
-use Prim.Native.Nat.{ℕ, _+_, _-_, _≤_}
-use mathlib.Core.Path.{_≡_}
-use mathlib.Core.List.{List, [], _∷_}
-use lib.Dec.{eqb, ltb}
+-- Document 01, Turned-down calls (marks; row 12 of sealing), Layouts (response frame): both schemes. A scheme mark is 1 for DES and 2 for AES,
+-- and every other gives 17. The credentials are the DES session key, or cipher key, MAC key and Challenge 3C. Assumes nothing.
+use Prim.Native.Nat.{ℕ, _+_, _-_}
+use mathlib.Core.List.{List, _∷_}
+use lib.Dec.{eqb}
 use lib.ListN.{length}
-use Rattle.answer.specs.Outcome.{Outcome, refused, accepted, row, choose, firstOf}
+use Rattle.answer.specs.Outcome.{Outcome, refused, accepted, choose}
 use Rattle.frame.specs.DesFrame.{desSize, desSealed, desSealing, desOpening}
 use Rattle.frame.specs.AesFrame.{aesSize, aesSealed, aesSealing, aesOpening}
-use Rattle.answer.specs.Tests.{isnt, either}
 
 -- the outcome of the scheme that the mark names
 unfoldable pub byScheme : ℕ → Outcome → Outcome → Outcome
@@ -40,7 +38,7 @@ framing code o = choose (eqb (o .number) 0) (accepted 0 (framed code (o .bytes))
 unfoldable pub responding : ℕ → List ℕ → ℕ → ℕ → List ℕ → List ℕ → ℕ → Outcome
 responding scheme c code number id payload room = framing code (sealing scheme c code number id payload (room - 2))
 
--- ---- the size forecast
+-- ---- sizes
 
 -- the size of the sealed data of a payload of n bytes
 unfoldable pub sealedSize : ℕ → ℕ → ℕ
@@ -49,11 +47,3 @@ sealedSize scheme n = choose (eqb scheme 1) (desSize n) (aesSize n)
 -- the longest payload
 unfoldable pub longest : ℕ → ℕ
 longest scheme = choose (eqb scheme 1) 232 243
-
--- the answer to the question for the size of n bytes sealed, number and length: 17 and 12 as sealing gives them, else a length that is
--- never below the sealed size and at most 7 above it. Which one is left to the program
-pub record Forecast (scheme n number size : ℕ) : Type 0 where
-  pub number-is : number ≡ firstOf (row 17 (isnt (either (eqb scheme 1) (eqb scheme 2))) ∷ row 12 (ltb (longest scheme) n) ∷ [])
-  pub least : number ≡ 0 → sealedSize scheme n ≤ size
-  pub most : number ≡ 0 → size ≤ sealedSize scheme n + 7
-  pub nothing : (number ≡ 0 → ⊥) → size ≡ 0

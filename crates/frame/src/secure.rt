@@ -5,7 +5,8 @@ use answer::Answer;
 ghost use mathlib.Core.Path.{_≡_};
 ghost use lib.ListN.{length};
 ghost use Rattle.answer.specs.Outcome.{Meets};
-ghost use Rattle.frame.specs.Scheme.{sealing, opening, responding, Forecast};
+ghost use Rattle.frame.specs.Forecast.{forecasting};
+ghost use Rattle.frame.specs.Scheme.{sealing, opening, responding};
 
 // Scheme marks. They stand here once; a key's algorithm has the same numbers.
 pub const DES: u8 = 1;
@@ -88,9 +89,9 @@ pub fn build_secure_response_frame(
     answer::refused(17)
 }
 
-// The size of a sealed payload of payload_len bytes.
+// The size of a sealed payload of payload_len bytes: what encrypt_command writes.
 pub fn forecast(scheme: u8, payload_len: usize) -> Answer
-    ensures { λ r. ⌜ Forecast scheme «payload_len» (r .number) (r .length) × (r .«transaction_number» ≡ 0) ⌝ }
+    ensures { λ r. ⌜ (r .number ≡ forecasting scheme «payload_len» .number) × (r .length ≡ forecasting scheme «payload_len» .size) × (r .«transaction_number» ≡ 0) ⌝ }
 {
     if scheme == DES {
         if 232 < payload_len {
