@@ -3,7 +3,7 @@
 use mathlib.Core.Path.{_≡_, refl, sym, ap, _∙_}
 use mathlib.Core.Bool.{Bool, true, false}
 use mathlib.Core.List.{List}
-use mathlib.Core.Logic.{_↔_, _⊎_, ⊎-elim}
+use mathlib.Core.Logic.{_↔_, _⊎_, inl, inr, ⊎-elim}
 use Prim.Native.Nat.{ℕ, _+_, _-_, _*_, _≤_, _<_}
 use native.Mathlib.Nat.{le-refl}
 use native.Mathlib.Omega.{arith}
@@ -24,9 +24,9 @@ use Rattle.frame.proofs.DesTrip.{DesDomain, des-opens-padded, des-opens
 use Rattle.answer.proofs.Refusals.{refused-number}
 use Rattle.frame.proofs.Pads.{padCount-small, length-pad}
 use Rattle.frame.proofs.Rooms.{des-short-room, des-means-short, aes-short-room, aes-means-short}
-use Rattle.frame.proofs.Schemes.{mark-known}
+use Rattle.frame.proofs.Schemes.{sealing-known}
 use Rattle.frame.proofs.WorkBlocks.{framing-accepted, framing-refused}
-use Rattle.frame.proofs.Sealing.{des-seals, aes-seals, des-seals-16, aes-seals-16, des-seals-only, aes-seals-only}
+use Rattle.frame.proofs.Sealing.{seals, seals-16, seals-only}
 
 -- ---- from what opens where there is room
 
@@ -104,8 +104,8 @@ module _ (c id : List ℕ) (code : ℕ) (hk : length c ≡ 8) (hi : length id �
   unfolding sealing byScheme sealed sealedSize longest choose
   des-frames =
       record {
-        seals = λ number room payload h l. des-seals id payload code number room c (record { six = hi; all = hk; short = h .short; fits = l });
-        seals-not = λ number room payload h l. des-seals-16 id payload code number room c hi hk (h .short) l;
+        seals = λ number room payload h l. seals 1 c id payload code number room (inl refl) hi hk (h .short) l;
+        seals-not = λ number room payload h l. seals-16 1 c id payload code number room (inl refl) hi hk (h .short) l;
         size = λ number payload h. des-sealed-long c id payload code number hi;
         opens-exactly = λ d room bd n. exactly-here 1 c id d code room (des-exactly d room bd) (des-refuses d room bd) (des-short d room bd) n;
         refuses-exactly = λ d room bd n. refuses-here 1 c id d code room (des-exactly d room bd) (des-refuses d room bd) (des-short d room bd) n;
@@ -152,8 +152,8 @@ module _ (c id : List ℕ) (code : ℕ) (hc : length c ≡ 36) (bc : Bytes c) (h
   unfolding sealing byScheme sealed sealedSize longest choose
   aes-frames =
       record {
-        seals = λ number room payload h l. aes-seals id payload code number room c (record { six = hi; all = hc; short = h .short; fits = l });
-        seals-not = λ number room payload h l. aes-seals-16 id payload code number room c hi hc (h .short) l;
+        seals = λ number room payload h l. seals 2 c id payload code number room (inr refl) hi hc (h .short) l;
+        seals-not = λ number room payload h l. seals-16 2 c id payload code number room (inr refl) hi hc (h .short) l;
         size = λ number payload h. aes-sealed-long c id payload code number hc hi;
         opens-exactly = λ d room bd n. exactly-here 2 c id d code room (aes-exactly d room bd) (aes-refuses d room bd) (aes-short d room bd) n;
         refuses-exactly = λ d room bd n. refuses-here 2 c id d code room (aes-exactly d room bd) (aes-refuses d room bd) (aes-short d room bd) n;
@@ -179,6 +179,16 @@ opens scheme c id code known hc bc hi bi ho number room payload h l =
     ⊎-elim
     (λ (e : scheme ≡ 1). rw e (des-opens c id code room (rw e at hc) hi bi ho number payload (to-des c id code (rw e at hc) hi bi ho number payload (rw e at h)) l))
     (λ (e : scheme ≡ 2). rw e (aes-opens c id code room (rw e at hc) bc hi bi ho number payload (to-aes c id code (rw e at hc) bc hi bi ho number payload (rw e at h)) l))
+    known
+
+-- the size of sealed data goes by lengths alone
+pub length-sealed : (scheme : ℕ) (c id payload : List ℕ) (code number : ℕ) → (scheme ≡ 1) ⊎ (scheme ≡ 2) → length id ≡ 6 → length c ≡ choose (eqb scheme 1) 8 36
+    → length (sealed scheme c code number id payload) ≡ sealedSize scheme (length payload)
+unfolding sealed sealedSize choose
+length-sealed scheme c id payload code number known hi hc =
+    ⊎-elim
+    (λ (e : scheme ≡ 1). rw e (des-sealed-long c id payload code number hi))
+    (λ (e : scheme ≡ 2). rw e (aes-sealed-long c id payload code number (rw e at hc) hi))
     known
 
 -- sealed data has at most 253 bytes, and a payload at most 243
@@ -221,34 +231,30 @@ size-some scheme n = choose-some (eqb scheme 1) (n + 8 + padCount (n + 8) + 8) (
 
 module _ (c id : List ℕ) (code : ℕ) (bc : Bytes c) (bi : Bytes id) (ho : code < 256) (number room : ℕ) (payload : List ℕ) (hn : number < 65536) (bp : Bytes payload) where
   des-again : sealing 1 c code number id payload room .number ≡ 0 → opening 1 c code id (sealing 1 c code number id payload room .bytes) 256 .number ≡ 0
-  unfolding sealing opening byScheme choose accepted
+  unfolding opening byScheme sealed longest choose accepted
   des-again z =
-      let s = des-seals-only id payload code number room c z in
+      let s = seals-only 1 c id payload code number room (inl refl) z in
       let l : length (pad payload) ≤ 256 = omega (arith, length-pad payload, padCount-small (length payload), s .short) in
-      rw (des-seals id payload code number room c s) (ap (λ (o : Outcome). o .number) (des-opens-padded c id payload code number (s .six) (s .all) bi ho hn (s .short) bp 256 l))
+      rw (seals 1 c id payload code number room (inl refl) (s .six) (s .all) (s .short) (s .fits)) (ap (λ (o : Outcome). o .number) (des-opens-padded c id payload code number (s .six) (s .all) bi ho hn (s .short) bp 256 l))
 
   aes-again : sealing 2 c code number id payload room .number ≡ 0 → opening 2 c code id (sealing 2 c code number id payload room .bytes) 256 .number ≡ 0
-  unfolding sealing opening byScheme choose accepted
+  unfolding opening byScheme sealed longest choose accepted
   aes-again z =
-      let s = aes-seals-only id payload code number room c z in
+      let s = seals-only 2 c id payload code number room (inr refl) z in
       let l : length payload ≤ 256 = omega (arith, s .short) in
-      rw (aes-seals id payload code number room c s)
+      rw (seals 2 c id payload code number room (inr refl) (s .six) (s .all) (s .short) (s .fits))
       (ap (λ (o : Outcome). o .number) (aes-opens c id code 256 (s .all) bc (s .six) bi ho number payload (record { small = hn; short = s .short; bytes = bp }) l))
-
-  known-sealing : (scheme : ℕ) → sealing scheme c code number id payload room .number ≡ 0 → (scheme ≡ 1) ⊎ (scheme ≡ 2)
-  unfolding sealing
-  known-sealing scheme z = mark-known scheme _ _ z
 
   pub opens-again : (scheme : ℕ) → sealing scheme c code number id payload room .number ≡ 0 → opening scheme c code id (sealing scheme c code number id payload room .bytes) 256 .number ≡ 0
   opens-again scheme z =
       ⊎-elim
       (λ (e : scheme ≡ 1). rw e (des-again (rw e at z)))
       (λ (e : scheme ≡ 2). rw e (aes-again (rw e at z)))
-      (known-sealing scheme z)
+      (sealing-known scheme c id payload code number room z)
 
 -- what follows the length byte and the code of a response frame opens too
 module _ (scheme : ℕ) (c id : List ℕ) (code number room : ℕ) (payload : List ℕ) (z : responding scheme c code number id payload room .number ≡ 0) where
-  sealed-before : sealing scheme c code number id payload (room - 2) .number ≡ 0
+  pub sealed-before : sealing scheme c code number id payload (room - 2) .number ≡ 0
   unfolding responding
   sealed-before =
       let o : Outcome = sealing scheme c code number id payload (room - 2) in
@@ -257,7 +263,7 @@ module _ (scheme : ℕ) (c id : List ℕ) (code number room : ℕ) (payload : Li
       (λ (l : o .number < 1). omega arith)
       (le-or-lt 1 (o .number))
 
-  is-framed : responding scheme c code number id payload room ≡ accepted 0 (framed code (sealing scheme c code number id payload (room - 2) .bytes))
+  pub is-framed : responding scheme c code number id payload room ≡ accepted 0 (framed code (sealing scheme c code number id payload (room - 2) .bytes))
   unfolding responding
   is-framed = framing-accepted code _ sealed-before
 

@@ -6,6 +6,7 @@
 -- DesOpens: DES opening, step by step
 -- DesSeals: DES sealing, step by step
 -- DesTrip: sealed DES data opens as what was sealed, and nothing else opens
+-- Forecasts: the forecast is the size that sealing writes, and its refusals are those of sealing
 -- Frames: `frames` and `responds`: both schemes, in the words of statement 3
 -- Fronts: the front of an output, lent to a call that works on whole blocks
 -- Ids: two transaction IDs are equal if their numbers are
@@ -28,6 +29,7 @@ pub mod Corners
 pub mod DesOpens
 pub mod DesSeals
 pub mod DesTrip
+pub mod Forecasts
 pub mod Frames
 pub mod Fronts
 pub mod Ids

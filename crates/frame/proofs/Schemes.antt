@@ -2,8 +2,8 @@
 use mathlib.Core.Path.{_≡_, refl, sym, ap, _∙_}
 use mathlib.Core.Bool.{Bool, true, false}
 use mathlib.Core.List.{List, [], _∷_}
-use mathlib.Core.Logic.{_⊎_, inl, inr}
-use Prim.Native.Nat.{ℕ, _+_, _≤_, _<_}
+use mathlib.Core.Logic.{_⊎_, inl, inr, ⊎-elim}
+use Prim.Native.Nat.{ℕ, _+_, _-_, _≤_, _<_}
 use native.Mathlib.Omega.{arith}
 use borrow.Author.Tests.{eqb-true, ne-eqb, lt-ltb, le-ltb, ltb-false}
 use lib.Dec.{eqb}
@@ -35,7 +35,7 @@ module _ (s : ℕ) (a b : Outcome) where
   mark-unknown h i = rw (ne-eqb s 1 h, ne-eqb s 2 i)
 
   -- an acceptance has a known mark
-  pub mark-known : byScheme s a b .number ≡ 0 → (s ≡ 1) ⊎ (s ≡ 2)
+  mark-known : byScheme s a b .number ≡ 0 → (s ≡ 1) ⊎ (s ≡ 2)
   unfolding byScheme choose refused
   mark-known z = go (eqb s 1) refl (eqb s 2) refl
     where
@@ -43,6 +43,15 @@ module _ (s : ℕ) (a b : Outcome) where
       go true e q f = inl (eqb-true s 1 e)
       go false e true f = inr (eqb-true s 2 f)
       go false e false f = let n : _≡_ {A = ℕ} 17 0 = rw (e, f) at z in absurd (omega arith)
+
+-- a sealing of 0 has a known mark
+pub sealing-known : (scheme : ℕ) (c id payload : List ℕ) (code number room : ℕ) → sealing scheme c code number id payload room .number ≡ 0 → (scheme ≡ 1) ⊎ (scheme ≡ 2)
+unfolding sealing
+sealing-known scheme c id payload code number room = mark-known scheme _ _
+
+pub sealing-unknown : (scheme : ℕ) (c id payload : List ℕ) (code number room : ℕ) → (scheme ≡ 1 → ⊥) → (scheme ≡ 2 → ⊥) → sealing scheme c code number id payload room ≡ refused 17
+unfolding sealing
+sealing-unknown scheme c id payload code number room = mark-unknown scheme _ _
 
 -- a response frame is its scheme's
 module _ (scheme : ℕ) (c id payload : List ℕ) (code number room : ℕ) where
@@ -53,8 +62,8 @@ module _ (scheme : ℕ) (c id payload : List ℕ) (code number room : ℕ) where
   responding-aes e = ap (λ (s : ℕ). responding s c code number id payload room) e
 
   pub responding-unknown : (scheme ≡ 1 → ⊥) → (scheme ≡ 2 → ⊥) → responding scheme c code number id payload room ≡ refused 17
-  unfolding responding sealing
-  responding-unknown h i = ap (framing code) (mark-unknown scheme _ _ h i) ∙ framing-refusal code 17 (λ e. omega arith)
+  unfolding responding
+  responding-unknown h i = ap (framing code) (sealing-unknown scheme c id payload code number (room - 2) h i) ∙ framing-refusal code 17 (λ e. omega arith)
 
 -- a refusal of sealing or opening is all of its outcome
 pub sealing-whole : (scheme code number room : ℕ) (c id payload : List ℕ) → Whole (sealing scheme c code number id payload room)
@@ -80,21 +89,35 @@ module _ (scheme n : ℕ) where
   unfolding forecastRows firstOf choose isnt either
   foretold-17 h i = forecast-by 17 (rw (ne-eqb scheme 1 h, ne-eqb scheme 2 i))
 
-  module _ (known : either (eqb scheme 1) (eqb scheme 2) ≡ true) where
+  module _ (known : (scheme ≡ 1) ⊎ (scheme ≡ 2)) where
+    -- row 17 does not hold
+    passes-17 : isnt (either (eqb scheme 1) (eqb scheme 2)) ≡ false
+    unfolding isnt either
+    passes-17 =
+        ⊎-elim
+        (λ (e : scheme ≡ 1). rw e refl)
+        (λ (e : scheme ≡ 2). rw e refl)
+        known
+
     pub foretold-12 : longest scheme < n → (forecasting scheme n .number ≡ 12) × (forecasting scheme n .size ≡ 0)
-    unfolding forecastRows firstOf choose isnt
-    foretold-12 h = forecast-by 12 (rw (known, lt-ltb (longest scheme) n h))
+    unfolding forecastRows firstOf choose
+    foretold-12 h = forecast-by 12 (rw (passes-17, lt-ltb (longest scheme) n h))
 
     pub foretold-size : n ≤ longest scheme → (forecasting scheme n .number ≡ 0) × (forecasting scheme n .size ≡ forecastSize scheme n)
-    unfolding forecastRows firstOf choose isnt
-    foretold-size h = forecast-by 0 (rw (known, le-ltb (longest scheme) n h))
+    unfolding forecastRows firstOf choose
+    foretold-size h = forecast-by 0 (rw (passes-17, le-ltb (longest scheme) n h))
+
+  known-of : (p : Bool) → eqb scheme 1 ≡ p → either (eqb scheme 1) (eqb scheme 2) ≡ true → (scheme ≡ 1) ⊎ (scheme ≡ 2)
+  unfolding either
+  known-of true e t = inl (eqb-true scheme 1 e)
+  known-of false e t = inr (eqb-true scheme 2 (rw e at t))
 
   -- a forecast of 0 has a known mark and a payload that is not too long
-  pub foretold-only : forecasting scheme n .number ≡ 0 → (either (eqb scheme 1) (eqb scheme 2) ≡ true) × (n ≤ longest scheme)
+  pub foretold-only : forecasting scheme n .number ≡ 0 → ((scheme ≡ 1) ⊎ (scheme ≡ 2)) × (n ≤ longest scheme)
   unfolding forecasting forecastRows numbered both
   foretold-only z =
       let a = first-passes (forecastRows scheme n) (forecasting scheme n .number) refl refl z in
-      (isnt-false _ (a .0), ltb-false _ _ (a .1 .0))
+      (known-of (eqb scheme 1) refl (isnt-false _ (a .0)), ltb-false _ _ (a .1 .0))
 
   module _ (r : Answer) where
     -- what `forecast` ensures
@@ -108,20 +131,20 @@ module _ (scheme n : ℕ) where
     pub forecast-unknown : (scheme ≡ 1 → ⊥) → (scheme ≡ 2 → ⊥) → Refused 17 r → Forecasts
     forecast-unknown h i = forecasts 17 0 (foretold-17 h i)
 
-    pub forecast-long : either (eqb scheme 1) (eqb scheme 2) ≡ true → longest scheme < n → Refused 12 r → Forecasts
+    pub forecast-long : (scheme ≡ 1) ⊎ (scheme ≡ 2) → longest scheme < n → Refused 12 r → Forecasts
     forecast-long known h = forecasts 12 0 (foretold-12 known h)
 
-    pub forecast-sized : either (eqb scheme 1) (eqb scheme 2) ≡ true → n ≤ longest scheme → (r .number ≡ 0) × (r .length ≡ forecastSize scheme n) × (r .«transaction_number» ≡ 0) → Forecasts
+    pub forecast-sized : (scheme ≡ 1) ⊎ (scheme ≡ 2) → n ≤ longest scheme → (r .number ≡ 0) × (r .length ≡ forecastSize scheme n) × (r .«transaction_number» ≡ 0) → Forecasts
     forecast-sized known h = forecasts 0 (forecastSize scheme n) (foretold-size known h)
 
   -- what a mark fixes
-  pub forecast-des : scheme ≡ 1 → (longest scheme ≡ 232) × (either (eqb scheme 1) (eqb scheme 2) ≡ true) × (forecastSize scheme n ≡ desSize n)
-  unfolding longest forecastSize upToEights desSize padCount choose either
-  forecast-des e = rw e (refl, refl, omega arith)
+  pub forecast-des : scheme ≡ 1 → (longest scheme ≡ 232) × (forecastSize scheme n ≡ desSize n)
+  unfolding longest forecastSize upToEights desSize padCount choose
+  forecast-des e = rw e (refl, omega arith)
 
-  pub forecast-aes : scheme ≡ 2 → (longest scheme ≡ 243) × (either (eqb scheme 1) (eqb scheme 2) ≡ true) × (forecastSize scheme n ≡ n + 10)
-  unfolding longest forecastSize choose either
-  forecast-aes e = rw e (refl, refl, refl)
+  pub forecast-aes : scheme ≡ 2 → (longest scheme ≡ 243) × (forecastSize scheme n ≡ n + 10)
+  unfolding longest forecastSize choose
+  forecast-aes e = rw e (refl, refl)
 
 -- the longest payload of each scheme
 pub longest-is-des : (scheme : ℕ) → scheme ≡ 1 → longest scheme ≡ 232

@@ -1,4 +1,5 @@
 use mathlib.Core.Path.{sym, _∙_}
+use mathlib.Core.Logic.{inl, inr}
 use native.Mathlib.Omega.{arith}
 use Rattle.frame.proofs.DesSeals.{size-most}
 use Rattle.frame.proofs.Schemes.{forecast-des, forecast-aes, forecast-long, forecast-sized, forecast-unknown}
@@ -10,7 +11,7 @@ returns : tie.Need-returns
 returns c =
     let i = c .before in
     let l = forecast-des _ (i .before .before .args .payload-len) (i .before .if1 .taken) in
-    forecast-long _ _ (c .refused .result) (l .1) (omega (arith, l .0, i .if2 .taken)) (c .refused .ensures)
+    forecast-long _ _ (c .refused .result) (inl (i .before .if1 .taken)) (omega (arith, l .0, i .if2 .taken)) (c .refused .ensures)
 
 cast-sized : tie.Need-cast-sized
 cast-sized c = omega (arith, c .size-des .ensures, size-most _ (c .before .if2 .left))
@@ -21,20 +22,20 @@ returns-2 c =
     let i = d .before in
     let l = forecast-des _ (i .before .before .args .payload-len) (i .before .if1 .taken) in
     let e = c .sized .ensures in
-    forecast-sized _ _ (c .sized .result) (l .1) (omega (arith, l .0, i .if2 .left)) (e .0, e .1 ∙ d .size-des .ensures ∙ sym (l .2), e .2)
+    forecast-sized _ _ (c .sized .result) (inl (i .before .if1 .taken)) (omega (arith, l .0, i .if2 .left)) (e .0, e .1 ∙ d .size-des .ensures ∙ sym (l .1), e .2)
 
 returns-3 : tie.Need-returns-3
 returns-3 c =
     let i = c .before in
     let l = forecast-aes _ (i .before .before .before .args .payload-len) (i .before .if3 .taken) in
-    forecast-long _ _ (c .refused2 .result) (l .1) (omega (arith, l .0, i .if4 .taken)) (c .refused2 .ensures)
+    forecast-long _ _ (c .refused2 .result) (inr (i .before .if3 .taken)) (omega (arith, l .0, i .if4 .taken)) (c .refused2 .ensures)
 
 returns-4 : tie.Need-returns-4
 returns-4 c =
     let i = c .before in
     let l = forecast-aes _ (i .before .before .before .args .payload-len) (i .before .if3 .taken) in
     let e = c .sized2 .ensures in
-    forecast-sized _ _ (c .sized2 .result) (l .1) (omega (arith, l .0, i .if4 .left)) (e .0, e .1 ∙ sym (l .2), e .2)
+    forecast-sized _ _ (c .sized2 .result) (inr (i .before .if3 .taken)) (omega (arith, l .0, i .if4 .left)) (e .0, e .1 ∙ sym (l .1), e .2)
 
 returns-5 : tie.Need-returns-5
 returns-5 c = forecast-unknown _ _ _ (c .before .before .if1 .left) (c .before .if3 .left) (c .refused3 .ensures)
