@@ -2,14 +2,14 @@
 use mathlib.Core.Path.{_≡_, refl, sym, ap, _∙_}
 use mathlib.Core.Bool.{Bool, true, false}
 use mathlib.Core.List.{List, [], _∷_}
-use Prim.Native.Nat.{ℕ, _≤_, _<_}
+use Prim.Native.Nat.{ℕ, _%_, _≤_, _<_}
 use native.Mathlib.Omega.{arith}
 use borrow.Author.Tests.{eqb-true, ltb-true, lt-ltb, le-ltb}
 use lib.Dec.{eqb, ltb}
 use lib.ListN.{length}
 use Rattle.answer.specs.Outcome.{Outcome, Row, Meets, refused, accepted, choose, decide, firstOf, over}
 use Rattle.answer.specs.Tests.{isnt, either, both}
-use Rattle.answer.specs.Delivery.{delivering}
+use Rattle.answer.specs.Delivery.{delivering, Delivers}
 use Rattle.answer.specs.declared.answer.Answer.{Answer}
 use Rattle.answer.proofs.Equality.{both-true}
 
@@ -117,3 +117,24 @@ no-room n p room h = rw (lt-ltb room (length p) h)
 pub room-enough : (n : ℕ) (p : List ℕ) (room : ℕ) → length p ≤ room → delivering n p room ≡ accepted n p
 unfolding delivering decide choose
 room-enough n p room h = rw (le-ltb room (length p) h)
+
+pub refused-delivers : (k : ℕ) (r : Answer) (out : List ℕ) → Refused k r → Delivers (refused k) r out out
+unfolding refused over
+refused-delivers k r out h = record { number = h .0; length-is = h .1; transaction = h .2; output = refl }
+
+pub accepted-delivers : (n : ℕ) (b : List ℕ) (r : Answer) (before after : List ℕ) → r .number ≡ 0 → r .length ≡ length b % 65536 → r .«transaction_number» ≡ n → after ≡ over b before → Delivers (accepted n b) r before after
+unfolding accepted
+accepted-delivers n b r before after h l t w = record { number = h; length-is = l; transaction = t; output = w }
+
+delivers-short : (o : Outcome) (r : Answer) (before after : List ℕ) → length (o .bytes) ≤ 65535 → Delivers o r before after → Meets o r before after
+delivers-short o r before after h d = record { number = d .number; length-is = d .length-is ∙ omega arith; transaction = d .transaction; output = d .output }
+
+delivering-no-longer : (t : Bool) (n : ℕ) (p : List ℕ) → length (choose t (refused 16) (accepted n p) .bytes) ≤ length p
+unfolding choose refused accepted
+delivering-no-longer true n p = omega arith
+delivering-no-longer false n p = omega arith
+
+-- a payload of up to 65,535 bytes is delivered with its length
+pub delivers-meets : (n : ℕ) (p : List ℕ) (room : ℕ) {r : Answer} {before after : List ℕ} → Delivers (delivering n p room) r before after → length p ≤ 65535 → Meets (delivering n p room) r before after
+unfolding delivering decide
+delivers-meets n p room {r} {before} {after} d h = delivers-short _ r before after (omega (arith, delivering-no-longer (ltb room (length p)) n p)) d

@@ -7,7 +7,7 @@ use lib.Dec.{lit<}
 use lib.ListN.{length}
 use Rattle.answer.specs.declared.answer.Answer.{Answer}
 use Rattle.answer.specs.Outcome.{Outcome, Meets}
-use Rattle.frame.specs.Scheme.{Forecast}
+use Rattle.frame.specs.Forecast.{forecasting}
 use Rattle.felica_secure.specs.Packed.{packed, packedNumber, packedMark, packedLength, packedTransaction, Returns, ReturnsDerived}
 use Rattle.session.specs.Derivation.{Derived, Derives}
 use Rattle.session.specs.declared.keys.DerivedAuthKeys.{DerivedAuthKeys}
@@ -35,13 +35,9 @@ pub meets-returns : (o : Outcome) (a : Answer) (r : ℕ) (before after : List �
 meets-returns o a r before after m e = record { answer = e ∙ rw (m .number, m .length-is, m .transaction); output = m .output }
 
 -- a forecast, packed
-pub forecast-packed : (scheme n : ℕ) (a : Answer) (r : ℕ) → a .number < 0x100 → a .length < 0x10000 → Forecast scheme n (a .number) (a .length) × (a .«transaction_number» ≡ 0)
-    → r ≡ packed (a .number) 0 (a .length) (a .«transaction_number») → (r ≡ packed (packedNumber r) 0 (packedLength r) 0) × Forecast scheme n (packedNumber r) (packedLength r)
-forecast-packed scheme n a r hn hl f e =
-    let q : r ≡ packed (a .number) 0 (a .length) 0 = e ∙ rw (f .1) in
-    let k : packedNumber r ≡ a .number = ap packedNumber q ∙ packed-number (a .number) 0 (a .length) 0 hn (lit< tt) hl (lit< tt) in
-    let l : packedLength r ≡ a .length = ap packedLength q ∙ packed-length (a .number) 0 (a .length) 0 hn (lit< tt) hl (lit< tt) in
-    (rw (k, l) q, rw (k, l) (f .0))
+pub forecast-packed : (scheme n : ℕ) (a : Answer) (r : ℕ) → (a .number ≡ forecasting scheme n .number) × (a .length ≡ forecasting scheme n .size) × (a .«transaction_number» ≡ 0)
+    → r ≡ packed (a .number) 0 (a .length) (a .«transaction_number») → r ≡ packed (forecasting scheme n .number) 0 (forecasting scheme n .size) 0
+forecast-packed scheme n a r f e = e ∙ rw (f .0, f .1, f .2)
 
 -- a derivation's answer, packed
 pub derives-returns : (d : Derived) (a : DerivedAuthKeys) (r : ℕ) (before after : List ℕ) → Derives d a before after → r ≡ packed (a .answer .number) (a .scheme) (a .answer .length) (a .node) → ReturnsDerived d r before after

@@ -3,10 +3,11 @@
 use crate::pack;
 ghost use mathlib.Core.Path.{_≡_};
 ghost use lib.ListN.{length};
-ghost use Rattle.felica_secure.specs.Packed.{packed, packedNumber, packedLength, Returns};
+ghost use Rattle.felica_secure.specs.Packed.{packed, Returns};
 ghost use Rattle.frame.specs.Authentication2.{auth2Sealing, auth2Opening, auth2OpeningAes};
+ghost use Rattle.frame.specs.Forecast.{forecasting};
 ghost use Rattle.frame.specs.Package.{packaging};
-ghost use Rattle.frame.specs.Scheme.{sealing, opening, responding, Forecast};
+ghost use Rattle.frame.specs.Scheme.{sealing, opening, responding};
 ghost use Rattle.frame.specs.Trimmed.{trimmedOpening};
 
 // Seals a command.
@@ -64,10 +65,10 @@ pub extern "C" fn felica_build_secure_response_frame(
     ))
 }
 
-// The size of a sealed payload.
+// The size of a sealed payload: what felica_encrypt_command writes.
 #[no_mangle]
 pub extern "C" fn felica_forecast(scheme: u8, payload_len: usize) -> u64
-    ensures { λ r. ⌜ (r ≡ packed (packedNumber r) 0 (packedLength r) 0) × Forecast scheme «payload_len» (packedNumber r) (packedLength r) ⌝ }
+    ensures { λ r. ⌜ r ≡ packed (forecasting scheme «payload_len» .number) 0 (forecasting scheme «payload_len» .size) 0 ⌝ }
 {
     pack::pack(frame::forecast(scheme, payload_len))
 }

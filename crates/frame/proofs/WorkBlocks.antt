@@ -10,9 +10,9 @@ use lib.ListN.{length, take, drop}
 use lib.Seq.{take-at}
 use Rattle.cipher.proofs.Numbers.{le-or-lt}
 use Rattle.answer.specs.declared.answer.Answer.{Answer}
-use Rattle.answer.specs.Delivery.{delivering}
+use Rattle.answer.specs.Delivery.{delivering, Delivers}
 use Rattle.answer.specs.Outcome.{Outcome, Row, Meets, refused, accepted, row, choose, decide, firstOf, over}
-use Rattle.answer.proofs.Rows.{AllFalse, Refused, decide-false, first-refuses, refused-meets, no-room, room-enough}
+use Rattle.answer.proofs.Rows.{AllFalse, Refused, decide-false, first-refuses, refused-meets, delivers-meets, no-room, room-enough}
 use Rattle.frame.specs.AesFrame.{aesSealed, aesSize, aesSealRows}
 use Rattle.frame.specs.DesFrame.{desSealed, desSize, sealRows}
 use Rattle.frame.specs.Scheme.{byScheme, sealing, framed, framing, responding}
@@ -69,22 +69,19 @@ module _ (rs : List Row) (b : List ℕ) (size : ℕ) (r : Answer) (before after 
 
   -- none does, and the first n bytes of the work block w are delivered
   module _ (w : List ℕ) (n : ℕ) (passed : AllFalse rs) (long : size ≡ length b) (short : size ≤ 253) where
-    abbrev Delivers : ℕ → Type 0
-    Delivers room = length (take (n - 0) w) ≤ 65535 → Meets (delivering 0 (take (n - 0) w) room) r before after
-
     -- what they are
-    goes-out : (p : List ℕ) (room : ℕ) → take n w ≡ p → length p ≤ 65535 → Delivers room → Meets (delivering 0 p room) r before after
+    goes-out : (p : List ℕ) (room : ℕ) → take n w ≡ p → length p ≤ 65535 → Delivers (delivering 0 (take (n - 0) w) room) r before after → Meets (delivering 0 p room) r before after
     goes-out p room e l m =
         let z : n - 0 ≡ n = omega arith in
         let q : take (n - 0) w ≡ p = rw z e in
-        rw q at (m (rw q l))
+        delivers-meets _ _ _ (rw q at m) l
 
-    pub delivered : (room : ℕ) → take n w ≡ b → Delivers room → Meets (sealingOf room) r before after
+    pub delivered : (room : ℕ) → take n w ≡ b → Delivers (delivering 0 (take (n - 0) w) room) r before after → Meets (sealingOf room) r before after
     delivered room e m =
         let l : length b ≤ 65535 = omega arith in
         rw (decide-false rs (decide (row 16 (ltb room size) ∷ []) (accepted 0 b)) passed, sized-delivering size room b long) (goes-out b room e l m)
 
-    pub delivered-frame : (code room : ℕ) → 0 < size → take n w ≡ framed code b → Delivers room → Meets (framing code (sealingOf (room - 2))) r before after
+    pub delivered-frame : (code room : ℕ) → 0 < size → take n w ≡ framed code b → Delivers (delivering 0 (take (n - 0) w) room) r before after → Meets (framing code (sealingOf (room - 2))) r before after
     unfolding framed
     delivered-frame code room some e m =
         let l : length (framed code b) ≤ 65535 = omega arith in

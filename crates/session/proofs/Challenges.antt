@@ -13,11 +13,11 @@ use Rattle.cipher.specs.Fips197.{aesEncrypt, aesDecrypt}
 use Rattle.cipher.specs.Fips46.{desEncrypt}
 use Rattle.cipher.proofs.Copies.{copied}
 use Rattle.answer.specs.declared.answer.Answer.{Answer}
-use Rattle.answer.specs.Delivery.{delivering}
+use Rattle.answer.specs.Delivery.{delivering, Delivers}
 use Rattle.answer.specs.Fixed.{fit}
 use Rattle.answer.specs.Outcome.{Meets, row, accepted, choose, decide, over}
 use Rattle.answer.specs.Tests.{isnt, either, same}
-use Rattle.answer.proofs.Rows.{Refused, choose-most, either-false, is-number, refused-meets, accepted-meets}
+use Rattle.answer.proofs.Rows.{Refused, choose-most, either-false, is-number, refused-meets, accepted-meets, delivers-meets}
 use Rattle.answer.proofs.Outputs.{copied-over}
 use Rattle.answer.proofs.Pieces.{copied-next}
 use Rattle.session.specs.Challenge.{desL, desAlpha, desBeta, aesH, aesAlpha, aesBeta, contextBlock, with3C, blockSize, unknownScheme, wrong, wrongWith3C, giving, checking, sessionKeyInput, sessionKeys, derivingSessionKeys}
@@ -191,14 +191,14 @@ module _ (s : ℕ) (r a w : List ℕ) where
 
 -- what `deliver` ensures of bytes that go out with the number 0
 abbrev Delivered : List ℕ → Answer → List ℕ → List ℕ → Type 0
-Delivered b r o last = length b ≤ 65535 → Meets (delivering 0 b (length o)) r o last
+Delivered b r o last = Delivers (delivering 0 b (length o)) r o last
 
 -- what `give` of src/challenge.rt ensures
 pub front-given : (s size : ℕ) (b : List ℕ) (r : Answer) (o last : List ℕ) → blockSize s ≡ size → length b ≡ 16 → Delivered (take size b) r o last → Meets (giving false s (length o) (take (blockSize s) b)) r o last
 unfolding giving delivering decide choose
 front-given s size b r o last es l d =
     let k : length (take size b) ≡ size = length-take-le size b (omega (arith, size-most s)) in
-    rw es (rw k at (d (omega (arith, size-most s))))
+    rw es (rw k at (delivers-meets 0 (take size b) (length o) d (omega (arith, k, size-most s))))
 
 -- t is what a test of row 17 gave
 module _ (bad t : Bool) (s : ℕ) (want : List ℕ) (r : Answer) (o : List ℕ) (e : t ≡ bad) where
@@ -254,4 +254,4 @@ module _ (x : List ℕ) (r : Answer) (o : List ℕ) where
   keys-given y a b both last h e k j l m =
       let q : both ≡ aesEncrypt x (sessionKeyInput 1) ++ aesEncrypt x (sessionKeyInput 2) = j ∙ rw (k .0, k .1, e .1 h) in
       let d : length both ≤ 65535 = omega arith in
-      rw (eq-eqb (length x) 16 h, ← q, ← l) (m d)
+      rw (eq-eqb (length x) 16 h, ← q, ← l) (delivers-meets 0 both (length o) m d)

@@ -8,6 +8,7 @@ use Rattle.agreement.specs.inner.Said.{exchange1, exchange2, conversatio
 use Rattle.agreement.proofs.Credentials.{handed, handed-conversation}
 use Rattle.agreement.proofs.WholeTranscript.{E3, first-refused, second-refused, third-refused, went-on, delivered}
 use Rattle.agreement.proofs.PiecewiseOutput.{end-2, part-2, short-2, fits-2, room-3, end-3, part-3, short-3, fits-3, end-all, three, three-short}
+use Rattle.answer.proofs.Rows.{delivers-meets}
 use borrow.Author.Needs.{needs}
 use Rattle.agreement.proofs.transcript.speak.Statement.{statement}
 use Rattle.agreement.proofs.transcript.speak.Tie as tie
@@ -224,7 +225,7 @@ returns-4 c =
     (m2 .exchange-2 .ensures .0) (m2 .exchange-2 .kept .1 .1 .1 .1 .1 .1 .1 .0) (third m3) (m3 .converse .result)
     (m3 .converse .last .1 .1 .1 .1 .1 .1 .1 .1 .1 .0) (m3 .converse .ensures) (m3 .converse .kept .1 .1 .1 .1 .1 .1 .1 .1 .1 .0)) (d .deliver .result)
     (a .out .now) _
-    (d .deliver .ensures
+    (delivers-meets _ _ _ (d .deliver .ensures)
     (three-short (replicate 576 0) refl (first m1) (m1 .exchange-1 .result) (m1 .exchange-1 .last .1 .1 .1 .1 .1 .1 .0) (m1 .exchange-1 .ensures)
     (m1 .exchange-1 .kept .1 .1 .1 .1 .1 .1 .0) (second m2) (m2 .exchange-2 .result) (m2 .exchange-2 .last .1 .1 .1 .1 .1 .1 .1 .0)
     (m2 .exchange-2 .ensures .0) (m2 .exchange-2 .kept .1 .1 .1 .1 .1 .1 .1 .0) (third m3) (m3 .converse .result)

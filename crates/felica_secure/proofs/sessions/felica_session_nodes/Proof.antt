@@ -7,6 +7,7 @@ use Rattle.felica_secure.specs.SessionCalls.{keptSession, callNodes}
 use native.Mathlib.Omega.{arith}
 use lib.ListN.{length}
 use native.Mathlib.Nat.{sub-zero}
+use Rattle.answer.proofs.Rows.{delivers-meets}
 use borrow.Author.Needs.{needs}
 use Rattle.felica_secure.proofs.sessions.felica_session_nodes.Statement.{statement}
 use Rattle.felica_secure.proofs.sessions.felica_session_nodes.Tie as tie
@@ -27,7 +28,7 @@ returns-2 c =
     let ld = o .before in
     let i = ld .before in
     let a = i .before .before .before .before .args in
-    let m = rw (sub-zero, l .listed .ensures .0, n .node-count .ensures, o .nodes .ensures) at (e .deliver .ensures (omega arith)) in
+    let m = rw (sub-zero, l .listed .ensures .0, n .node-count .ensures, o .nodes .ensures) at (delivers-meets _ _ _ (e .deliver .ensures) (omega arith)) in
     tells keptSession (callNodes (length (a .out .now))) _ _ (sym (i .before .is-session .ensures) ∙ not-false _ (i .if1 .left)) (ld .load .result) (ld .load .ensures) (a .out .now) _
     (c .pack .ensures ∙ rw (m .number, m .length-is, m .transaction)) (m .output)
 

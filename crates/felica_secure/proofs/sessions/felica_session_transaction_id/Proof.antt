@@ -6,6 +6,7 @@ use Rattle.felica_secure.specs.Calls.{answering}
 use Rattle.felica_secure.specs.SessionCalls.{keptSession, callId}
 use native.Mathlib.Omega.{arith}
 use lib.ListN.{length}
+use Rattle.answer.proofs.Rows.{delivers-meets}
 use borrow.Author.Needs.{needs}
 use Rattle.felica_secure.proofs.sessions.felica_session_transaction_id.Statement.{statement}
 use Rattle.felica_secure.proofs.sessions.felica_session_transaction_id.Tie as tie
@@ -24,7 +25,7 @@ returns-2 c =
     let ld = t .before in
     let i = ld .before in
     let a = i .before .before .before .before .args in
-    let m = rw (t .transaction-id .ensures) at (e .deliver .ensures (omega arith)) in
+    let m = rw (t .transaction-id .ensures) at (delivers-meets _ _ _ (e .deliver .ensures) (omega arith)) in
     tells keptSession (callId (length (a .out .now))) _ _ (sym (i .before .is-session .ensures) ∙ not-false _ (i .if1 .left)) (ld .load .result) (ld .load .ensures) (a .out .now) _
     (c .pack .ensures ∙ rw (m .number, m .length-is, m .transaction)) (m .output)
 

@@ -3,7 +3,7 @@ use borrow.Author.Tests.{not-true, not-false}
 use Prim.Native.Nat.{_-_}
 use native.Mathlib.Omega.{arith}
 use lib.ListN.{length}
-use Rattle.answer.proofs.Rows.{refused-meets}
+use Rattle.answer.proofs.Rows.{refused-meets, delivers-meets}
 use Rattle.frame.proofs.Authentications.{no-block, wrong-mac, right-mac}
 use Rattle.answer.proofs.Pieces.{no-longer}
 use borrow.Author.Needs.{needs}
@@ -32,7 +32,7 @@ returns-3 c =
     let st = i .before .before .before in
     let a = st .args in
     let l = no-longer (length (a .plain .now) - 8) 65535 (a .plain .now) _ (s .strip-des-response-mac .ensures .0) (omega (arith, st .pre)) in
-    rw (right-mac (a .plain .now) (length (a .out .now)) (i .if1 .left) (sym (m .check-packet-mac-des .ensures) ∙ not-false _ (s .before .if2 .left))) (rw (s .strip-des-response-mac .ensures .0) at (d .deliver .ensures l))
+    rw (right-mac (a .plain .now) (length (a .out .now)) (i .if1 .left) (sym (m .check-packet-mac-des .ensures) ∙ not-false _ (s .before .if2 .left))) (rw (s .strip-des-response-mac .ensures .0) at (delivers-meets _ _ _ (d .deliver .ensures) l))
 
 pub accept-authentication2-spec : {M : Type 1} → statement M
 accept-authentication2-spec =

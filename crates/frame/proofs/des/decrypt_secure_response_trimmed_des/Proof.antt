@@ -9,7 +9,7 @@ use Rattle.answer.specs.Number.{numberOf}
 use Rattle.answer.specs.Outcome.{Outcome, accepted, over}
 use Rattle.frame.specs.DesFrame.{desPlain, payloadOf}
 use Rattle.frame.specs.Trimmed.{trim}
-use Rattle.answer.proofs.Rows.{refused-meets}
+use Rattle.answer.proofs.Rows.{refused-meets, delivers-meets}
 use Rattle.answer.proofs.Outputs.{front}
 use Rattle.frame.proofs.Trims.{trim-no-longer, trimmed-refuses, trimmed-opens}
 use borrow.Author.Needs.{needs}
@@ -58,7 +58,7 @@ returns-2 c =
     let w = front pl (replicate 256 0) (op .decrypt-secure-response-des .last .1 .1 .1 .1 .0) _ (sym n) (m .output ∙ ap (λ (o : Outcome). over (o .bytes) (replicate 256 0)) (t .0)) in
     let y : now (tp .trim-payload .result) ≡ trim pl = tp .trim-payload .ensures ∙ ap trim w in
     let l : length (trim pl) ≤ 65535 = trim-no-longer pl (trim pl) 65535 refl (omega (arith, t .2)) in
-    rw (t .1) ((rw y at (rw x at (d .deliver .ensures))) l)
+    rw (t .1) (delivers-meets _ _ _ (rw y at (rw x at (d .deliver .ensures))) l)
 
 pub decrypt-secure-response-trimmed-des-spec : {M : Type 1} → statement M
 decrypt-secure-response-trimmed-des-spec =

@@ -2,7 +2,7 @@ use mathlib.Core.Path.{sym, _∙_}
 use borrow.Author.Tests.{not-true, not-false}
 use native.Mathlib.Omega.{arith}
 use lib.ListN.{length}
-use Rattle.answer.proofs.Rows.{refused-meets}
+use Rattle.answer.proofs.Rows.{refused-meets, delivers-meets}
 use Rattle.frame.proofs.DesOpens.{wrong-id, right-id}
 use Rattle.answer.proofs.Equality.{same-is}
 use borrow.Author.Needs.{needs}
@@ -23,7 +23,7 @@ returns-2 c =
     let q = i .before in
     let st = q .before .before .before in
     let a = st .args in
-    rw (right-id (a .transaction-number) (length (a .out .now)) (a .transaction-id) (a .payload .now) (a .id) (sym (same-is _ _ _ (q .same-id .ensures)) ∙ not-false _ (i .if1 .left))) (d .deliver .ensures (omega (arith, st .pre)))
+    rw (right-id (a .transaction-number) (length (a .out .now)) (a .transaction-id) (a .payload .now) (a .id) (sym (same-is _ _ _ (q .same-id .ensures)) ∙ not-false _ (i .if1 .left))) (delivers-meets _ _ _ (d .deliver .ensures) (omega (arith, st .pre)))
 
 pub deliver-checked-spec : {M : Type 1} → statement M
 deliver-checked-spec =

@@ -2,7 +2,7 @@ use native.Mathlib.Omega.{arith}
 use lib.ListN.{length}
 use borrow.Author.Tests.{not-true, not-false}
 use Rattle.frame.proofs.AesOpens.{mac-refuses, mac-passes}
-use Rattle.answer.proofs.Rows.{meets-refused}
+use Rattle.answer.proofs.Rows.{meets-refused, delivers-meets}
 use borrow.Author.Needs.{needs}
 use Rattle.frame.proofs.v2_aes.accept_aes.Statement.{statement}
 use Rattle.frame.proofs.v2_aes.accept_aes.Tie as tie
@@ -21,7 +21,7 @@ returns-2 c =
     let e = i .before in
     let st = e .before .before .before .before .before in
     let a = st .args in
-    rw (mac-passes (a .number) (a .t2) (a .t3) (a .payload .now) (length (a .out .now)) _ (e .ct-eq .ensures) (not-false _ (i .if1 .left))) (d .deliver .ensures (omega (arith, st .pre)))
+    rw (mac-passes (a .number) (a .t2) (a .t3) (a .payload .now) (length (a .out .now)) _ (e .ct-eq .ensures) (not-false _ (i .if1 .left))) (delivers-meets _ _ _ (d .deliver .ensures) (omega (arith, st .pre)))
 
 pub accept-aes-spec : {M : Type 1} → statement M
 accept-aes-spec =
