@@ -378,14 +378,14 @@ static void write_payload(const struct reader *r, const struct profile *p, const
 static void reader_sends(struct reader *r, uint8_t code, const uint8_t *payload, size_t payload_len, struct frame *f)
 {
     uint8_t scheme = felica_answer_scheme(accepted("scheme", felica_session_scheme(r->session, sizeof r->session)));
-    size_t most = felica_answer_length(accepted("forecast", felica_forecast(scheme, payload_len)));
+    size_t size = felica_answer_length(accepted("forecast", felica_forecast(scheme, payload_len)));
     uint64_t answer;
 
     answer = accepted("number step", felica_session_increment_transaction_number(r->session, sizeof r->session));
     printf("  reader  number %u\n", (unsigned)felica_answer_transaction_number(answer));
     answer = accepted("sealing", felica_session_encrypt_command(r->session, sizeof r->session, code, payload, payload_len,
                                                                 f->bytes + 2, sizeof f->bytes - 2));
-    expect(felica_answer_length(answer) <= most, "sealed data no longer than forecast");
+    expect(felica_answer_length(answer) == size, "sealed data as long as forecast");
     f->len = 2 + (size_t)felica_answer_length(answer);
     f->bytes[0] = (uint8_t)f->len;
     f->bytes[1] = code;

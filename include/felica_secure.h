@@ -3,7 +3,7 @@
 // libfelica_secure.a, for x86-64 Linux.
 //
 // Proved, for every call whose buffers are as the caller's part below says: the call ends, and its answer and its whole output are those
-// of a definition, which docs/STATUS.md names for each function (for the forecast, within a bound).
+// of a definition, which docs/STATUS.md names for each function.
 //
 // The caller's part, which no proof can see:
 // - Each pointer is valid for the length that follows it: readable, and writable for the output.
@@ -66,6 +66,10 @@ extern "C" {
 // The longest payload that can be sealed.
 #define FELICA_DES_PAYLOAD_MAX 232
 #define FELICA_AES_PAYLOAD_MAX 243
+// The size of the sealed data of a payload of n bytes, with n up to the longest: the length that felica_forecast gives, as a constant if n is
+// one. With DES n + 8 is brought up to a multiple of 8, then come 8 more.
+#define FELICA_DES_SEALED_SIZE(n) (((n) + 8 + 7) / 8 * 8 + 8)
+#define FELICA_AES_SEALED_SIZE(n) ((n) + 10)
 // The longest DES Authentication 2 payload, once padded to whole blocks of 8 bytes.
 #define FELICA_AUTHENTICATION2_PADDED_MAX 240
 // The longest data that can be opened.
@@ -272,9 +276,10 @@ uint64_t felica_build_secure_response_frame(uint8_t scheme, uint8_t code, uint16
                                             const uint8_t *payload, size_t payload_len,
                                             uint8_t *out, size_t out_len);
 
-// Forecasts the size of the sealed data of a payload of payload_len bytes: the answer's length is never below what felica_encrypt_command
-// writes, and at most 7 above it. A response frame takes 2 bytes more. Writes nothing.
-// Refusals: 17 (mark), 12 (as sealing gives it).
+// Forecasts the size of the sealed data of a payload of payload_len bytes: the answer's length is exactly how many bytes
+// felica_encrypt_command writes, so an output of that size takes them and one of a byte less gives 16. A response frame takes 2 bytes more.
+// Any payload_len may be asked for. Writes nothing. For an array's size: FELICA_DES_SEALED_SIZE, FELICA_AES_SEALED_SIZE.
+// Refusals: 17 (mark), 12 (DES payload over 232, AES payload over 243).
 uint64_t felica_forecast(uint8_t scheme, size_t payload_len);
 
 // ---- DES

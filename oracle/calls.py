@@ -127,7 +127,7 @@ def difference(expected, said):
     packed, written, session, state = int(words[0], 16), data(words[1]), data(words[2]), words[3]
     if state != "clean":
         return f"changed: {state}"
-    if not expected.answer.allows(packed):
+    if packed != expected.answer.packed():
         return f"the answer is {packed:016x}, for {expected.answer.packed():016x}"
     if written != expected.answer.data:
         return f"the output is {text(written)}, for {text(expected.answer.data)}"

@@ -19,7 +19,7 @@
     P(NODE, "node", "derivation: 4 with the node's bytes exchanged") \
     P(SCHEME, "scheme", "derivation, chosen by keys: an acceptance without the scheme") \
     P(HIGH_BIT, "high_bit", "checking 2B: 13 with bit 48") \
-    P(FORECAST, "forecast", "forecast of 17 bytes, AES: 8 above the sealed size") \
+    P(FORECAST, "forecast", "forecast of 17 bytes, AES: one above the sealed size") \
     P(TRIM, "trim", "trimmed opening: a last byte of 7 drops nothing") \
     P(CHECK, "check", "checking 1B: the last byte is not compared") \
     P(STEP, "step", "number step at 0xFFFF: 0 and the number 0") \
@@ -135,7 +135,7 @@ static uint64_t in_answer(const struct call *c, uint64_t answer)
         return answer | (uint64_t)1 << 48;
     }
     if (plant == FORECAST && is(c, "forecast") && number == 0 && c->length == 17 && c->scheme == FELICA_SCHEME_AES128) {
-        return (uint64_t)(17 + 10 + 8) << 16;
+        return (uint64_t)(17 + 10 + 1) << 16;
     }
     return answer;
 }

@@ -20,23 +20,17 @@ class Unlisted(Exception):
 
 
 class Answer(NamedTuple):
-    """An answer's parts. `value` is what the length's bits hold where no bytes are written; it may be up to `slack`
-    more."""
+    """An answer's parts. `value` is what the length's bits hold where no bytes are written."""
 
     number: int = 0
     scheme: int = 0
     value: int = 0
     transaction: int = 0
     data: bytes = b""
-    slack: int = 0
 
     def packed(self):
         length = self.value or len(self.data)
         return self.number | self.scheme << 8 | length << 16 | self.transaction << 32
-
-    def allows(self, packed):
-        more = (packed - self.packed()) >> 16
-        return packed == self.packed() + (more << 16) and 0 <= more <= self.slack
 
 
 class State(NamedTuple):
@@ -257,10 +251,10 @@ def trims(rules, operation, inputs):
 
 
 def forecasts(rules, operation, inputs):
-    """The sealed size, or up to 7 more. What is far too long is sealed as something shorter that is too long."""
+    """The size that the original seals. What is far too long is sealed as something shorter that is too long."""
     scheme, length = inputs
     sealed = rules.answer("seal", (scheme, 0, 1, bytes(6), bytes(KEYS.get(scheme, 0)), bytes(min(length, 1000))))
-    return Answer(sealed.number, value=len(sealed.data), slack=0 if sealed.number else 7)
+    return Answer(sealed.number, value=len(sealed.data))
 
 
 def receives(rules, operation, inputs):

@@ -415,7 +415,7 @@ impl Seal<'_> {
     }
 }
 
-/// The most bytes that the sealed data of a payload of this length takes.
+/// How many bytes the sealed data of a payload of this length takes: exactly what encrypt_command writes.
 pub fn forecast(scheme: u8, payload_len: usize) -> Result<usize, Refusal> {
     written(call!(felica_forecast(scheme, payload_len;;)))
 }

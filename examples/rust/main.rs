@@ -381,7 +381,8 @@ fn reader_sends(session: &mut Session, code: u8, payload: &[u8]) -> Outcome<Vec<
         session.increment_transaction_number()?
     );
     let len = session.encrypt_command(code, payload, &mut sealed)?;
-    let frame = [&[(2 + len) as u8, code], &sealed[..len]].concat();
+    expect(len == sealed.len(), "sealed data as long as forecast")?;
+    let frame = [&[(2 + len) as u8, code], &sealed[..]].concat();
     show("reader", "command", &frame);
     Ok(frame)
 }

@@ -36,6 +36,9 @@
     F(TRIMS_8, "trimmed opening: a last byte of 8 drops 8 bytes") \
     F(TRIMS_NOT, "trimmed opening: drops nothing") \
     F(FORECAST_LESS, "forecast: one less for 17 bytes") \
+    F(FORECAST_SPARE, "forecast, AES: seven spare bytes") \
+    F(FORECAST_BLOCK, "forecast, DES: a block more for whole blocks") \
+    F(FORECAST_17, "forecast: 12 in the place of 17 for a long payload") \
     F(FORECAST_32_BITS, "forecast: cuts the length to 32 bits") \
     F(AUTH2_LIMIT, "Authentication 2, DES, sealing: 240 bytes are too many") \
     F(AUTH2_8, "Authentication 2, DES, opening: accepts 8 bytes") \
@@ -169,10 +172,21 @@ uint64_t __wrap_felica_build_secure_response_frame(SEALED)
 
 uint64_t __wrap_felica_forecast(uint8_t scheme, size_t n)
 {
+    uint64_t answer;
+
     if (fault == FORECAST_32_BITS) {
         n %= 0x100000000u;
     }
-    return __real_felica_forecast(scheme, n) - (fault == FORECAST_LESS && n == 17 ? 0x10000 : 0);
+    if (fault == FORECAST_17 && n > 243) {
+        scheme = FELICA_SCHEME_AES128;
+    }
+    answer = __real_felica_forecast(scheme, n);
+    if (felica_answer_number(answer) == 0) {
+        answer -= fault == FORECAST_LESS && n == 17 ? 0x10000 : 0;
+        answer += fault == FORECAST_SPARE && scheme == FELICA_SCHEME_AES128 ? 0x70000 : 0;
+        answer += fault == FORECAST_BLOCK && scheme == FELICA_SCHEME_DES && n % 8 == 0 ? 0x80000 : 0;
+    }
+    return answer;
 }
 
 // ---- opening

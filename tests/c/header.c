@@ -1,5 +1,5 @@
-// The header by itself, as C99 and as C++11: included twice, its constants against docs/NUMBERS.md, its accessors, and a call of each
-// function, so that C++ too finds it in the archive. That the constants are what the library goes by: constants.c.
+// The header by itself, as C99 and as C++11: included twice, its constants against docs/NUMBERS.md, its accessors, its sizes by a rule, and a
+// call of each function, so that C++ too finds it in the archive. That the constants are what the library goes by: constants.c.
 #include "../../include/felica_secure.h"
 #include "../../include/felica_secure.h"
 
@@ -55,6 +55,43 @@ FACT(session, FELICA_SESSION_SIZE == 178);
 FACT(version, FELICA_SESSION_VERSION == 1);
 FACT(session_nodes, FELICA_SESSION_NODES_MAX == 64);
 FACT(not_listed, FELICA_NODE_NOT_LISTED == 64);
+
+// The sizes by a rule are constants: an array can have them, and they are those of the request's table.
+static uint8_t des_sealed[FELICA_DES_SEALED_SIZE(FELICA_DES_PAYLOAD_MAX)];
+static uint8_t aes_sealed[FELICA_AES_SEALED_SIZE(FELICA_AES_PAYLOAD_MAX)];
+
+FACT(des_sealed, sizeof des_sealed == 248);
+FACT(des_sealed_0, FELICA_DES_SEALED_SIZE(0) == 16);
+FACT(des_sealed_1, FELICA_DES_SEALED_SIZE(1) == 24);
+FACT(des_sealed_8, FELICA_DES_SEALED_SIZE(8) == 24);
+FACT(des_sealed_9, FELICA_DES_SEALED_SIZE(9) == 32);
+FACT(des_sealed_of, 2 * FELICA_DES_SEALED_SIZE(8 | 1) == 64);
+FACT(aes_sealed, sizeof aes_sealed == 253);
+FACT(aes_sealed_0, FELICA_AES_SEALED_SIZE(0) == 10);
+FACT(aes_sealed_1, FELICA_AES_SEALED_SIZE(1) == 11);
+FACT(aes_sealed_of, 2 * FELICA_AES_SEALED_SIZE(8 | 1) == 38);
+
+// For every payload they are the length of the forecast, and an array of that size takes the sealing of the longest.
+static int sizes(void)
+{
+    static const uint8_t zeros[FELICA_AES_PAYLOAD_MAX] = {0};
+    size_t n;
+
+    for (n = 0; n <= FELICA_DES_PAYLOAD_MAX; n++) {
+        if (felica_forecast(FELICA_SCHEME_DES, n) != (uint64_t)FELICA_DES_SEALED_SIZE(n) << 16) {
+            return 0;
+        }
+    }
+    for (n = 0; n <= FELICA_AES_PAYLOAD_MAX; n++) {
+        if (felica_forecast(FELICA_SCHEME_AES128, n) != (uint64_t)FELICA_AES_SEALED_SIZE(n) << 16) {
+            return 0;
+        }
+    }
+    return felica_encrypt_command(FELICA_SCHEME_DES, 0, 0, zeros, FELICA_ID_SIZE, zeros, FELICA_DES_KEY_SIZE, zeros, FELICA_DES_PAYLOAD_MAX,
+                                  des_sealed, sizeof des_sealed) == (uint64_t)sizeof des_sealed << 16 &&
+           felica_encrypt_command(FELICA_SCHEME_AES128, 0, 0, zeros, FELICA_ID_SIZE, zeros, FELICA_AES_CREDENTIALS_SIZE, zeros,
+                                  FELICA_AES_PAYLOAD_MAX, aes_sealed, sizeof aes_sealed) == (uint64_t)sizeof aes_sealed << 16;
+}
 
 static int accessors(void)
 {
@@ -115,5 +152,5 @@ static int calls(void)
 
 int main(void)
 {
-    return accessors() && calls() && session_calls() ? 0 : 1;
+    return accessors() && sizes() && calls() && session_calls() ? 0 : 1;
 }

@@ -1,4 +1,4 @@
-# Writes the header so that each constant, and each shift and mask of an accessor, can be moved: MOVED in the environment names it, BY says
+# Writes the header so that each constant, each size by a rule, and each shift and mask of an accessor, can be moved: MOVED in the environment names it, BY says
 # by how much.
 /^#include <stdint.h>/ {
     print
@@ -13,6 +13,12 @@
 }
 /^#define FELICA_[A-Z0-9_]+ / {
     print "#define " $2 " (" $3 " + felica_moves(\"" $2 "\"))"
+    next
+}
+/^#define FELICA_[A-Z0-9_]+\(n\) / {
+    name = substr($2, 1, index($2, "(") - 1)
+    rule = substr($0, index($0, $3))
+    print "#define " $2 " (" rule " + felica_moves(\"" name "\"))"
     next
 }
 /^static inline/ {

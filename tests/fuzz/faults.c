@@ -54,6 +54,9 @@ uint64_t __wrap_felica_forecast(uint8_t scheme, size_t n)
 {
     uint64_t answer = __real_felica_forecast(scheme, n);
 
+    if (has("forecasts-one-more") && n % 8 == 1 && felica_answer_number(answer) == 0) {
+        answer += (uint64_t)1 << 16;
+    }
     return has("bit-48") && n == 99 && felica_answer_number(answer) == 0 ? answer | (uint64_t)1 << 48 : answer;
 }
 

@@ -61,7 +61,7 @@ static void opens_back(const struct shot *s, const uint8_t *data, size_t n)
     uint64_t forecast = felica_forecast(s->scheme, s->in[IN_DATA].n);
 
     gives(felica_decrypt_response(s->scheme, s->code, B(ID), B(KEYS), data, n, BACK), s->number, wanted, size);
-    check(felica_answer_length(forecast) >= n && felica_answer_length(forecast) <= n + 7, "the forecast is wrong");
+    check(forecast == (uint64_t)n << 16, "the forecast is not the size as sealed");
 }
 
 static void seals_back(const struct shot *s, unsigned scheme, unsigned code, const struct result *r)

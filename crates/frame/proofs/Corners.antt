@@ -1,22 +1,21 @@
 -- Values that the definitions have at given places. Assumes nothing.
 use mathlib.Core.Path.{_≡_, refl, sym, ap, _∙_}
 use mathlib.Core.List.{List, [], _∷_, _++_, append-nil}
-use mathlib.Core.Logic.{inl}
-use Prim.Native.Nat.{ℕ, _≤_}
+use Prim.Native.Nat.{ℕ, _≤_, _<_}
 use native.Mathlib.Omega.{arith}
+use borrow.Author.Tests.{eq-eqb, lt-ltb}
 use lib.Dec.{lit<}
 use lib.ListN.{length, replicate}
 use Rattle.cipher.specs.Fips46.{desEncrypt}
 use Rattle.cipher.proofs.Folds.{under-start, under-done}
 use Rattle.frame.specs.AesFrame.{aesIv}
-use Rattle.frame.specs.DesFrame.{macStart, desMac, desSize, desSealing}
+use Rattle.frame.specs.DesFrame.{macStart, desMac, desSize, sealRows, desSealing}
 use Rattle.answer.specs.Number.{numberBytes}
-use Rattle.answer.specs.Outcome.{Outcome, choose}
+use Rattle.answer.specs.Outcome.{Outcome, refused, choose, decide}
 use Rattle.frame.specs.Padding.{padCount, pad}
-use Rattle.frame.specs.Scheme.{byScheme, sealing, sealedSize, longest}
 use Rattle.frame.proofs.DesSeals.{size-most}
-use Rattle.answer.proofs.Refusals.{accepted-zero, refused-number}
-use Rattle.frame.proofs.Sealing.{seals, seals-12}
+use Rattle.answer.proofs.Refusals.{isnt-of, either-of, accepted-zero}
+use Rattle.frame.proofs.Sealing.{des-seals}
 
 -- what a string of n bytes gains
 pub padded : (l : List ℕ) (n : ℕ) → length l ≡ n → pad l ≡ l ++ replicate (padCount n) (padCount n)
@@ -50,11 +49,10 @@ iv-43 = refl
 
 module _ (key id payload : List ℕ) (code number room : ℕ) (hk : length key ≡ 8) (hi : length id ≡ 6) where
   pub size-232 : length payload ≡ 232 → 248 ≤ room → desSealing key code number id payload room .number ≡ 0
-  unfolding sealing byScheme sealedSize longest choose
   size-232 e h =
       let f : desSize (length payload) ≤ room = let l = size-most (length payload) (omega arith) in omega arith in
-      ap (λ (o : Outcome). o .number) (seals 1 key id payload code number room (inl refl) hi hk (omega arith) f) ∙ accepted-zero 0 _
+      ap (λ (o : Outcome). o .number) (des-seals id payload code number room key (record { six = hi; all = hk; short = omega arith; fits = f })) ∙ accepted-zero 0 _
 
   pub size-233 : length payload ≡ 233 → desSealing key code number id payload room .number ≡ 12
-  unfolding sealing byScheme longest choose
-  size-233 e = ap (λ (o : Outcome). o .number) (seals-12 1 key id payload code number room (inl refl) hi hk (omega arith)) ∙ refused-number 12
+  unfolding desSealing sealRows decide choose refused
+  size-233 e = let l : 232 < length payload = omega arith in rw (either-of _ _ (isnt-of _ (eq-eqb _ _ hi)) (isnt-of _ (eq-eqb _ _ hk)), lt-ltb _ _ l)
