@@ -35,7 +35,7 @@ returns-4 c =
     let i = c .before in
     let l = forecast-aes _ (i .before .before .before .args .payload-len) (i .before .if3 .taken) in
     let e = c .sized2 .ensures in
-    forecast-sized _ _ (c .sized2 .result) (inr (i .before .if3 .taken)) (omega (arith, l .0, i .if4 .left)) (e .0, e .1 ∙ sym (l .1), e .2)
+    forecast-sized _ _ (c .sized2 .result) (inr (i .before .if3 .taken)) (omega (arith, l .0, i .if4 .left)) (e .0, omega (arith, e .1, l .1), e .2)
 
 returns-5 : tie.Need-returns-5
 returns-5 c = forecast-unknown _ _ _ (c .before .before .if1 .left) (c .before .if3 .left) (c .refused3 .ensures)
