@@ -3,7 +3,7 @@ use mathlib.Core.Path.{_≡_, refl, sym, ap, _∙_}
 use mathlib.Core.Bool.{Bool, true, false}
 use mathlib.Core.List.{List}
 use mathlib.Core.Logic.{_↔_, _⊎_, inl, inr, ⊎-elim}
-use Prim.Native.Nat.{ℕ, _+_, _-_, _*_, _/_, _%_, _≤_, _<_}
+use Prim.Native.Nat.{ℕ, _+_, _-_, _≤_, _<_}
 use native.Mathlib.Omega.{arith}
 use lib.Dec.{eqb, lit<}
 use lib.ListN.{length}
@@ -14,18 +14,17 @@ use Rattle.answer.proofs.Refusals.{refused-number, accepted-zero}
 use Rattle.frame.specs.AesFrame.{aesSize}
 use Rattle.frame.specs.DesFrame.{desSize}
 use Rattle.frame.specs.Forecast.{upToEights, forecastSize, forecastRows, forecasting}
-use Rattle.frame.specs.Padding.{padCount}
 use Rattle.frame.specs.Scheme.{sealed, sealing, responding, sealedSize, longest}
 use Rattle.frame.proofs.Frames.{length-sealed, sealed-before, is-framed, length-framed}
-use Rattle.frame.proofs.Schemes.{sealing-known, sealing-unknown, foretold-17, foretold-12, foretold-size, foretold-only}
+use Rattle.frame.proofs.Schemes.{eights-are-sealed, sealing-known, sealing-unknown, foretold-17, foretold-12, foretold-size, foretold-only}
 use Rattle.frame.proofs.Sealing.{seals, seals-12, seals-16, seals-only}
 
 -- the rule of the request is that of sealing; a mark that is neither 1 nor 2 has no size, and both rules treat it alike
 pub forecast-is-sealed-size : (scheme n : ℕ) → forecastSize scheme n ≡ sealedSize scheme n
-unfolding forecastSize sealedSize upToEights desSize aesSize padCount choose
+unfolding forecastSize sealedSize aesSize choose
 forecast-is-sealed-size scheme n = by (eqb scheme 1) where
   by : (b : Bool) → choose b (upToEights (n + 8) + 8) (n + 10) ≡ choose b (desSize n) (aesSize n)
-  by true = omega arith
+  by true = eights-are-sealed n
   by false = refl
 
 -- a forecast of 0 has the sealed size

@@ -1,7 +1,7 @@
 -- One call for both schemes: what a scheme mark chooses, and the forecast. Assumes nothing.
 use mathlib.Core.Path.{_≡_, refl, sym, ap, _∙_}
 use mathlib.Core.Bool.{Bool, true, false}
-use mathlib.Core.List.{List, [], _∷_}
+use mathlib.Core.List.{List}
 use mathlib.Core.Logic.{_⊎_, inl, inr, ⊎-elim}
 use Prim.Native.Nat.{ℕ, _+_, _-_, _≤_, _<_}
 use native.Mathlib.Omega.{arith}
@@ -78,6 +78,11 @@ opening-whole scheme code room c id d =
 
 -- ---- the forecast
 
+-- number, ID and payload, brought up to whole blocks, then the MAC
+pub eights-are-sealed : (n : ℕ) → upToEights (n + 8) + 8 ≡ desSize n
+unfolding upToEights desSize padCount
+eights-are-sealed n = omega arith
+
 module _ (scheme n : ℕ) where
   -- by the number of the first row that holds
   forecast-by : (k : ℕ) → firstOf (forecastRows scheme n) ≡ k → (forecasting scheme n .number ≡ k) × (forecasting scheme n .size ≡ choose (eqb k 0) (forecastSize scheme n) 0)
@@ -121,36 +126,27 @@ module _ (scheme n : ℕ) where
 
   module _ (r : Answer) where
     -- what `forecast` ensures
-    abbrev Forecasts : Type 0
-    Forecasts = (r .number ≡ forecasting scheme n .number) × (r .length ≡ forecasting scheme n .size) × (r .«transaction_number» ≡ 0)
+    abbrev Foretells : Type 0
+    Foretells = (r .number ≡ forecasting scheme n .number) × (r .length ≡ forecasting scheme n .size) × (r .«transaction_number» ≡ 0)
 
     -- the answer and the forecast have the same number and size
-    forecasts : (k size : ℕ) → (forecasting scheme n .number ≡ k) × (forecasting scheme n .size ≡ size) → (r .number ≡ k) × (r .length ≡ size) × (r .«transaction_number» ≡ 0) → Forecasts
+    forecasts : (k size : ℕ) → (forecasting scheme n .number ≡ k) × (forecasting scheme n .size ≡ size) → (r .number ≡ k) × (r .length ≡ size) × (r .«transaction_number» ≡ 0) → Foretells
     forecasts k size e f = (f .0 ∙ sym (e .0), f .1 ∙ sym (e .1), f .2)
 
-    pub forecast-unknown : (scheme ≡ 1 → ⊥) → (scheme ≡ 2 → ⊥) → Refused 17 r → Forecasts
+    pub forecast-unknown : (scheme ≡ 1 → ⊥) → (scheme ≡ 2 → ⊥) → Refused 17 r → Foretells
     forecast-unknown h i = forecasts 17 0 (foretold-17 h i)
 
-    pub forecast-long : (scheme ≡ 1) ⊎ (scheme ≡ 2) → longest scheme < n → Refused 12 r → Forecasts
+    pub forecast-long : (scheme ≡ 1) ⊎ (scheme ≡ 2) → longest scheme < n → Refused 12 r → Foretells
     forecast-long known h = forecasts 12 0 (foretold-12 known h)
 
-    pub forecast-sized : (scheme ≡ 1) ⊎ (scheme ≡ 2) → n ≤ longest scheme → (r .number ≡ 0) × (r .length ≡ forecastSize scheme n) × (r .«transaction_number» ≡ 0) → Forecasts
+    pub forecast-sized : (scheme ≡ 1) ⊎ (scheme ≡ 2) → n ≤ longest scheme → (r .number ≡ 0) × (r .length ≡ forecastSize scheme n) × (r .«transaction_number» ≡ 0) → Foretells
     forecast-sized known h = forecasts 0 (forecastSize scheme n) (foretold-size known h)
 
   -- what a mark fixes
   pub forecast-des : scheme ≡ 1 → (longest scheme ≡ 232) × (forecastSize scheme n ≡ desSize n)
-  unfolding longest forecastSize upToEights desSize padCount choose
-  forecast-des e = rw e (refl, omega arith)
+  unfolding longest forecastSize choose
+  forecast-des e = rw e (refl, eights-are-sealed n)
 
   pub forecast-aes : scheme ≡ 2 → (longest scheme ≡ 243) × (forecastSize scheme n ≡ n + 10)
   unfolding longest forecastSize choose
   forecast-aes e = rw e (refl, refl)
-
--- the longest payload of each scheme
-pub longest-is-des : (scheme : ℕ) → scheme ≡ 1 → longest scheme ≡ 232
-unfolding longest choose
-longest-is-des scheme e = rw e
-
-pub longest-is-aes : (scheme : ℕ) → scheme ≡ 2 → longest scheme ≡ 243
-unfolding longest choose
-longest-is-aes scheme e = rw e

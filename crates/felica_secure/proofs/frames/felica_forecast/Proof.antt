@@ -1,4 +1,3 @@
-use native.Mathlib.Omega.{arith}
 use Rattle.felica_secure.proofs.PackedParts.{forecast-packed}
 use borrow.Author.Needs.{needs}
 use Rattle.felica_secure.proofs.frames.felica_forecast.Statement.{statement}
