@@ -277,8 +277,9 @@ uint64_t felica_build_secure_response_frame(uint8_t scheme, uint8_t code, uint16
                                             uint8_t *out, size_t out_len);
 
 // Forecasts the size of the sealed data of a payload of payload_len bytes: the answer's length is exactly how many bytes
-// felica_encrypt_command writes, so an output of that size takes them and one of a byte less gives 16. A response frame takes 2 bytes more.
-// Any payload_len may be asked for. Writes nothing. For an array's size: FELICA_DES_SEALED_SIZE, FELICA_AES_SEALED_SIZE.
+// felica_encrypt_command and felica_session_encrypt_command write, so an output of that size takes them, and one of a byte less gives 16. A
+// response frame takes 2 bytes more. Any payload_len may be asked for. Writes nothing. For an array's size there are FELICA_DES_SEALED_SIZE and
+// FELICA_AES_SEALED_SIZE.
 // Refusals: 17 (mark), 12 (DES payload over 232, AES payload over 243).
 uint64_t felica_forecast(uint8_t scheme, size_t payload_len);
 

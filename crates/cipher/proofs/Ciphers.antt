@@ -14,7 +14,7 @@ use Rattle.cipher.proofs.ByteLists.{Block, Bytes-replicate}
 use Rattle.cipher.proofs.AesInverse.{aes-decrypt-encrypt, aes-encrypt-decrypt}
 use Rattle.cipher.proofs.AesLengths.{aesEncrypt-long, aesEncrypt-bytes, aesDecrypt-long, aesDecrypt-bytes}
 use Rattle.cipher.proofs.DesInverse.{des-decrypt-encrypt, des-encrypt-decrypt, length-desEncrypt, length-desDecrypt, Bytes-desEncrypt, Bytes-desDecrypt}
-use Rattle.cipher.proofs.ModeLaws.{Undone, length-cbcEncrypt, Bytes-cbcEncrypt, length-cbcDecrypt, Bytes-cbcDecrypt, cbc-decrypt-encrypt, cbc-encrypt-decrypt, length-ofb, ofb-twice, ofb-parts, good-input, Bytes-ofb}
+use Rattle.cipher.proofs.ModeLaws.{Undone, cbcEncrypt-long, Bytes-cbcEncrypt, cbcDecrypt-long, Bytes-cbcDecrypt, cbc-decrypt-encrypt, cbc-encrypt-decrypt, length-ofb, ofb-twice, ofb-parts, good-input, Bytes-ofb}
 use Rattle.cipher.proofs.Folds.{good-under, good-under-whole, good-back, back-under, under-back, under-alike, back-alike}
 use Rattle.cipher.proofs.Macs.{mac-block}
 use Rattle.cipher.proofs.Parity.{des-encrypt-halves, des-decrypt-halves}
@@ -65,10 +65,10 @@ zeros-block w = record { long = length-replicate w 0; bytes = Bytes-replicate w 
 
 module _ (key l : List ℕ) (n : ℕ) (h : length l ≡ n * 8) where
   pub length-des-cbc : length (cbcEncrypt (desEncrypt key) 8 (replicate 8 0) l) ≡ length l
-  length-des-cbc = length-cbcEncrypt 8 (lit< tt) l n h _ (λ b k. length-desEncrypt key b) _ (zeros-block 8 .long)
+  length-des-cbc = cbcEncrypt-long _ 8 (lit< tt) (length-desEncrypt key) _ l (zeros-block 8 .long) n h
 
   pub length-des-cbc-back : length (cbcDecrypt (desDecrypt key) 8 (replicate 8 0) l) ≡ length l
-  length-des-cbc-back = length-cbcDecrypt 8 (lit< tt) l n h _ (λ b k. length-desDecrypt key b) _ (zeros-block 8 .long)
+  length-des-cbc-back = cbcDecrypt-long _ 8 (lit< tt) (length-desDecrypt key) _ l (zeros-block 8 .long) n h
 
 module _ (key l : List ℕ) (b : Bytes l) (n : ℕ) (h : length l ≡ n * 8) where
   pub Bytes-des-cbc : Bytes (cbcEncrypt (desEncrypt key) 8 (replicate 8 0) l)
@@ -78,10 +78,10 @@ module _ (key l : List ℕ) (b : Bytes l) (n : ℕ) (h : length l ≡ n * 8) whe
   Bytes-des-cbc-back = Bytes-cbcDecrypt _ _ 8 (lit< tt) (des-redone key) _ l (zeros-block 8) b n h
 
   pub des-cbc-decrypt-encrypt : cbcDecrypt (desDecrypt key) 8 (replicate 8 0) (cbcEncrypt (desEncrypt key) 8 (replicate 8 0) l) ≡ l
-  des-cbc-decrypt-encrypt = cbc-decrypt-encrypt _ _ 8 (lit< tt) (des-undone key) _ l (zeros-block 8) b n h (λ c k. length-desEncrypt key c)
+  des-cbc-decrypt-encrypt = cbc-decrypt-encrypt _ _ 8 (lit< tt) (des-undone key) _ l (zeros-block 8) b n h
 
   pub des-cbc-encrypt-decrypt : cbcEncrypt (desEncrypt key) 8 (replicate 8 0) (cbcDecrypt (desDecrypt key) 8 (replicate 8 0) l) ≡ l
-  des-cbc-encrypt-decrypt = cbc-encrypt-decrypt _ _ 8 (lit< tt) (des-redone key) _ l (zeros-block 8) b n h (λ c k. length-desDecrypt key c)
+  des-cbc-encrypt-decrypt = cbc-encrypt-decrypt _ _ 8 (lit< tt) (des-redone key) _ l (zeros-block 8) b n h
 
 -- ---- the DES fold and its way back: the keys may be any string
 

@@ -42,22 +42,35 @@ other-blocks w n l h =
 pub Block-⊕ : (w : ℕ) (a b : List ℕ) → Block w a → Block w b → Block w (a ⊕ b)
 Block-⊕ w a b g h = let p = g .long in let q = h .long in record { long = length-⊕ a b (omega arith) ∙ p; bytes = Bytes-⊕ a b (g .bytes) (h .bytes) }
 
--- what a mode writes over n whole blocks is as long, where each step gives as many bytes as it takes
-module _ (out next : List ℕ → List ℕ → List ℕ) (w : ℕ) (gives : (s b : List ℕ) → length s ≡ w → length b ≡ w → length (out s b) ≡ w)
-    (keeps : (s b : List ℕ) → length s ≡ w → length b ≡ w → length (next s b) ≡ w) where
-  length-chain : (n : ℕ) (s l : List ℕ) → length s ≡ w → length l ≡ n * w → length (chain out next w s n l) ≡ n * w
+-- what a mode writes over n whole blocks is as long, where each step gives w bytes: for strings of a kind P, which their parts are too
+module _ (out next : List ℕ → List ℕ → List ℕ) (w : ℕ) (P : List ℕ → Type 0) (parts : (l : List ℕ) → P l → P (take w l) × P (drop w l))
+    (gives : (s b : List ℕ) → length s ≡ w → P s → length b ≡ w → P b → length (out s b) ≡ w)
+    (keeps : (s b : List ℕ) → length s ≡ w → P s → length b ≡ w → P b → (length (next s b) ≡ w) × P (next s b)) where
+  length-chain : (n : ℕ) (s l : List ℕ) → length s ≡ w → P s → length l ≡ n * w → P l → length (chain out next w s n l) ≡ n * w
   unfolding chain
-  length-chain zero s l g h = sym (zero-mul w)
-  length-chain (suc n) s l g h =
+  length-chain zero s l g k h p = sym (zero-mul w)
+  length-chain (suc n) s l g k h p =
       let e : suc n * w ≡ n * w + w = suc-mul n w in
       let f : length (take w l) ≡ w = length-take-le w l (omega arith) in
-      let q : length (out s (take w l)) ≡ w = gives s (take w l) g f in
-      let r : length (chain out next w (next s (take w l)) n (drop w l)) ≡ n * w = length-chain n (next s (take w l)) (drop w l) (keeps s (take w l) g f) (other-blocks w n l h) in
+      let t = parts l p in
+      let o : length (out s (take w l)) ≡ w = gives s (take w l) g k f (t .0) in
+      let m = keeps s (take w l) g k f (t .0) in
+      let r : length (chain out next w (next s (take w l)) n (drop w l)) ≡ n * w = length-chain n (next s (take w l)) (drop w l) (m .0) (m .1) (other-blocks w n l h) (t .1) in
       length-append (out s (take w l)) _ ∙ omega arith
 
--- it is made of bytes, where each step gives a block and the state stays one
+-- where each step gives a block and the state stays one
 module _ (out next : List ℕ → List ℕ → List ℕ) (w : ℕ) (gives : (s b : List ℕ) → Block w s → Block w b → Block w (out s b))
     (keeps : (s b : List ℕ) → Block w s → Block w b → Block w (next s b)) where
+  block : (s : List ℕ) → length s ≡ w → Bytes s → Block w s
+  block s h b = record { long = h; bytes = b }
+
+  blocks-long : (n : ℕ) (s l : List ℕ) → Block w s → Bytes l → length l ≡ n * w → length (chain out next w s n l) ≡ n * w
+  blocks-long n s l g b h =
+      length-chain out next w Bytes (λ m c. (Bytes-take w m c, Bytes-drop w m c))
+      (λ t m i p j q. gives t m (block t i p) (block m j q) .long)
+      (λ t m i p j q. let k = keeps t m (block t i p) (block m j q) in (k .long, k .bytes))
+      n s l (g .long) (g .bytes) h b
+
   Bytes-chain : (n : ℕ) (s l : List ℕ) → Block w s → Bytes l → length l ≡ n * w → Bytes (chain out next w s n l)
   unfolding chain
   Bytes-chain zero s l g b h = Bytes-nil
@@ -109,55 +122,61 @@ module _ (E D : List ℕ → List ℕ) (w : ℕ) (pos : 0 < w) (law : Undone E D
   unfolding cbcBack
   back-gives s b g h = Block-⊕ w (E b) s (law .enc b h) g
 
--- n whole blocks
-module _ (w : ℕ) (pos : 0 < w) (l : List ℕ) (n : ℕ) (h : length l ≡ n * w) where
+-- for n whole blocks
+module _ (E D : List ℕ → List ℕ) (w : ℕ) (pos : 0 < w) (law : Undone E D w) (iv l : List ℕ) (g : Block w iv) (b : Bytes l) (n : ℕ) (h : length l ≡ n * w) where
   count : blocks w (length l) ≡ n
   count = ap (blocks w) h ∙ blocks-times w n pos
 
-  -- lengths alone: a cipher that gives as many bytes as it takes
-  module _ (CIPH : List ℕ → List ℕ) (long : (b : List ℕ) → length b ≡ w → length (CIPH b) ≡ w) (iv : List ℕ) (g : length iv ≡ w) where
-    out-long : (s b : List ℕ) → length s ≡ w → length b ≡ w → length (cbcOut CIPH w s b) ≡ w
-    unfolding cbcOut
-    out-long s b k m = long (b ⊕ s) (length-xor w b s m k)
+  length-cbcEncrypt : length (cbcEncrypt E w iv l) ≡ length l
+  unfolding cbcEncrypt
+  length-cbcEncrypt = rw count (blocks-long _ _ w (cbc-gives E D w pos law) (cbc-gives E D w pos law) n iv l g b h ∙ sym h)
 
-    back-long : (s b : List ℕ) → length s ≡ w → length b ≡ w → length (cbcBack CIPH w s b) ≡ w
-    unfolding cbcBack
-    back-long s b k m = length-xor w (CIPH b) s (long b m) k
-
-    pub length-cbcEncrypt : length (cbcEncrypt CIPH w iv l) ≡ length l
-    unfolding cbcEncrypt
-    length-cbcEncrypt = rw count (length-chain _ _ w out-long out-long n iv l g h ∙ sym h)
-
-    pub length-cbcDecrypt : length (cbcDecrypt CIPH w iv l) ≡ length l
-    unfolding cbcDecrypt
-    length-cbcDecrypt = rw count (length-chain _ _ w back-long (λ s c k m. m) n iv l g h ∙ sym h)
-
--- for n whole blocks of bytes
-module _ (E D : List ℕ → List ℕ) (w : ℕ) (pos : 0 < w) (law : Undone E D w) (iv l : List ℕ) (g : Block w iv) (b : Bytes l) (n : ℕ) (h : length l ≡ n * w) where
   pub Bytes-cbcEncrypt : Bytes (cbcEncrypt E w iv l)
   unfolding cbcEncrypt
-  Bytes-cbcEncrypt = rw (count w pos l n h) (Bytes-chain _ _ w (cbc-gives E D w pos law) (cbc-gives E D w pos law) n iv l g b h)
+  Bytes-cbcEncrypt = rw count (Bytes-chain _ _ w (cbc-gives E D w pos law) (cbc-gives E D w pos law) n iv l g b h)
 
   -- of decryption by E
+  length-cbcDecrypt : length (cbcDecrypt E w iv l) ≡ length l
+  unfolding cbcDecrypt
+  length-cbcDecrypt = rw count (blocks-long _ _ w (back-gives E D w pos law) (λ s c k m. m) n iv l g b h ∙ sym h)
+
   pub Bytes-cbcDecrypt : Bytes (cbcDecrypt E w iv l)
   unfolding cbcDecrypt
-  Bytes-cbcDecrypt = rw (count w pos l n h) (Bytes-chain _ _ w (back-gives E D w pos law) (λ s c k m. m) n iv l g b h)
+  Bytes-cbcDecrypt = rw count (Bytes-chain _ _ w (back-gives E D w pos law) (λ s c k m. m) n iv l g b h)
 
-  module _ (long : (c : List ℕ) → length c ≡ w → length (E c) ≡ w) where
-    pub cbc-decrypt-encrypt : cbcDecrypt D w iv (cbcEncrypt E w iv l) ≡ l
-    unfolding cbcEncrypt cbcDecrypt
-    cbc-decrypt-encrypt =
-        ap (λ (k : ℕ). chain (cbcBack D w) (itself D w) w iv k (cbcEncrypt E w iv l)) (ap (blocks w) (length-cbcEncrypt w pos l n h E long iv (g .long)) ∙ count w pos l n h)
-        ∙ ap (λ (k : ℕ). chain (cbcBack D w) (itself D w) w iv n (chain (cbcOut E w) (cbcOut E w) w iv k l)) (count w pos l n h)
-        ∙ undone E D w pos law n iv l g b h
+  pub cbc-decrypt-encrypt : cbcDecrypt D w iv (cbcEncrypt E w iv l) ≡ l
+  unfolding cbcEncrypt cbcDecrypt
+  cbc-decrypt-encrypt =
+      ap (λ (k : ℕ). chain (cbcBack D w) (itself D w) w iv k (cbcEncrypt E w iv l)) (ap (blocks w) length-cbcEncrypt ∙ count)
+      ∙ ap (λ (k : ℕ). chain (cbcBack D w) (itself D w) w iv n (chain (cbcOut E w) (cbcOut E w) w iv k l)) count
+      ∙ undone E D w pos law n iv l g b h
 
-    -- with the cipher's directions exchanged: E here is what CBC decryption uses
-    pub cbc-encrypt-decrypt : cbcEncrypt D w iv (cbcDecrypt E w iv l) ≡ l
-    unfolding cbcEncrypt cbcDecrypt
-    cbc-encrypt-decrypt =
-        ap (λ (k : ℕ). chain (cbcOut D w) (cbcOut D w) w iv k (cbcDecrypt E w iv l)) (ap (blocks w) (length-cbcDecrypt w pos l n h E long iv (g .long)) ∙ count w pos l n h)
-        ∙ ap (λ (k : ℕ). chain (cbcOut D w) (cbcOut D w) w iv n (chain (cbcBack E w) (itself E w) w iv k l)) (count w pos l n h)
-        ∙ redone E D w pos law n iv l g b h
+  -- with the cipher's directions exchanged: E here is what CBC decryption uses
+  pub cbc-encrypt-decrypt : cbcEncrypt D w iv (cbcDecrypt E w iv l) ≡ l
+  unfolding cbcEncrypt cbcDecrypt
+  cbc-encrypt-decrypt =
+      ap (λ (k : ℕ). chain (cbcOut D w) (cbcOut D w) w iv k (cbcDecrypt E w iv l)) (ap (blocks w) length-cbcDecrypt ∙ count)
+      ∙ ap (λ (k : ℕ). chain (cbcOut D w) (cbcOut D w) w iv n (chain (cbcBack E w) (itself E w) w iv k l)) count
+      ∙ redone E D w pos law n iv l g b h
+
+-- lengths go by lengths alone, where the cipher always gives w bytes
+module _ (CIPH : List ℕ → List ℕ) (w : ℕ) (pos : 0 < w) (long : (b : List ℕ) → length (CIPH b) ≡ w) (iv l : List ℕ) (g : length iv ≡ w) (n : ℕ) (h : length l ≡ n * w) where
+  cbc-blocks : blocks w (length l) ≡ n
+  cbc-blocks = ap (blocks w) h ∙ blocks-times w n pos
+
+  pub cbcEncrypt-long : length (cbcEncrypt CIPH w iv l) ≡ length l
+  unfolding cbcEncrypt cbcOut
+  cbcEncrypt-long =
+      rw cbc-blocks
+      (length-chain _ _ w (λ s. Unit {0}) (λ m c. (tt, tt)) (λ s b i p j q. long _) (λ s b i p j q. (long _, tt)) n iv l g tt h tt
+      ∙ sym h)
+
+  pub cbcDecrypt-long : length (cbcDecrypt CIPH w iv l) ≡ length l
+  unfolding cbcDecrypt cbcBack
+  cbcDecrypt-long =
+      rw cbc-blocks
+      (length-chain _ _ w (λ s. Unit {0}) (λ m c. (tt, tt)) (λ s b i p j q. length-xor w (CIPH b) s (long b) i) (λ s b i p j q. (j, tt)) n iv l g tt h tt
+      ∙ sym h)
 
 -- ---- OFB
 

@@ -72,9 +72,9 @@ pub id-header : (number : ℕ) (id rest : List ℕ) → length id ≡ 6 → idOf
 unfolding idOf header
 id-header number id rest h = take-at id rest 6 h
 
--- ---- the parts of sealed data, and its size: they go by the length of the ID alone
+-- ---- the parts of sealed data, and its size: they go by the lengths of key and ID alone
 
-module _ (key id payload : List ℕ) (code number : ℕ) (hi : length id ≡ 6) where
+module _ (key id payload : List ℕ) (code number : ℕ) (hk : length key ≡ 8) (hi : length id ≡ 6) where
   plain : List ℕ
   plain = header number id ++ pad payload
 
@@ -111,7 +111,7 @@ module _ (key id payload : List ℕ) (code number : ℕ) (hi : length id ≡ 6) 
       sealed-long ∙ rw e (omega arith)
 
   -- opening: any payload up to 232 bytes comes back padded
-  module _ (hk : length key ≡ 8) (bi : Bytes id) (hc : code < 256) (hn : number < 65536) (hp : length payload ≤ 232) (bp : Bytes payload) where
+  module _ (bi : Bytes id) (hc : code < 256) (hn : number < 65536) (hp : length payload ≤ 232) (bp : Bytes payload) where
     full-bytes : Bytes full
     unfolding full plain
     full-bytes =
@@ -307,7 +307,7 @@ module _ (key id : List ℕ) (code room : ℕ) (hk : length key ≡ 8) (hi : len
   des-opens number payload h l =
       let e : pad payload ≡ payload = pad-none payload (h .whole) in
       let f : length (pad payload) ≤ room = rw e l in
-      des-opens-padded key id payload code number hi hk bi hc (h .small) (h .short) (h .bytes) room f ∙ ap (accepted number) e
+      des-opens-padded key id payload code number hk hi bi hc (h .small) (h .short) (h .bytes) room f ∙ ap (accepted number) e
 
   -- data that opens as a number and a payload is their sealing
   pub des-sealed : (d : List ℕ) → Bytes d → (number : ℕ) (payload : List ℕ) → desOpening key code id d room ≡ accepted number payload

@@ -106,7 +106,7 @@ module _ (c id : List ℕ) (code : ℕ) (hk : length c ≡ 8) (hi : length id �
       record {
         seals = λ number room payload h l. seals 1 c id payload code number room (inl refl) hi hk (h .short) l;
         seals-not = λ number room payload h l. seals-16 1 c id payload code number room (inl refl) hi hk (h .short) l;
-        size = λ number payload h. des-sealed-long c id payload code number hi;
+        size = λ number payload h. des-sealed-long c id payload code number hk hi;
         opens-exactly = λ d room bd n. exactly-here 1 c id d code room (des-exactly d room bd) (des-refuses d room bd) (des-short d room bd) n;
         refuses-exactly = λ d room bd n. refuses-here 1 c id d code room (des-exactly d room bd) (des-refuses d room bd) (des-short d room bd) n;
         room-exactly = λ d room bd. (des-large d room bd, λ t. ap (λ (o : Outcome). o .number) (des-short d room bd (t .number) (t .payload) (t .inside) (t .is) (t .larger)) ∙ refused-number 16);
@@ -187,7 +187,7 @@ pub length-sealed : (scheme : ℕ) (c id payload : List ℕ) (code number : ℕ)
 unfolding sealed sealedSize choose
 length-sealed scheme c id payload code number known hi hc =
     ⊎-elim
-    (λ (e : scheme ≡ 1). rw e (des-sealed-long c id payload code number hi))
+    (λ (e : scheme ≡ 1). rw e (des-sealed-long c id payload code number (rw e at hc) hi))
     (λ (e : scheme ≡ 2). rw e (aes-sealed-long c id payload code number (rw e at hc) hi))
     known
 
@@ -235,7 +235,7 @@ module _ (c id : List ℕ) (code : ℕ) (bc : Bytes c) (bi : Bytes id) (ho : cod
   des-again z =
       let s = seals-only 1 c id payload code number room (inl refl) z in
       let l : length (pad payload) ≤ 256 = omega (arith, length-pad payload, padCount-small (length payload), s .short) in
-      rw (seals 1 c id payload code number room (inl refl) (s .six) (s .all) (s .short) (s .fits)) (ap (λ (o : Outcome). o .number) (des-opens-padded c id payload code number (s .six) (s .all) bi ho hn (s .short) bp 256 l))
+      rw (seals 1 c id payload code number room (inl refl) (s .six) (s .all) (s .short) (s .fits)) (ap (λ (o : Outcome). o .number) (des-opens-padded c id payload code number (s .all) (s .six) bi ho hn (s .short) bp 256 l))
 
   aes-again : sealing 2 c code number id payload room .number ≡ 0 → opening 2 c code id (sealing 2 c code number id payload room .bytes) 256 .number ≡ 0
   unfolding opening byScheme sealed longest choose accepted
