@@ -21,6 +21,9 @@ unfolding blocks
 blocks-times w n p =
     ap (λ (k : ℕ). k / w) (add-comm (n * w) (w - 1)) ∙ add-mul-div-right (w - 1) n p ∙ ap (λ (k : ℕ). k + n) (div-eq-of-lt (omega arith)) ∙ zero-add n
 
+pub blocks-whole : (w n : ℕ) (l : List ℕ) → 0 < w → length l ≡ n * w → blocks w (length l) ≡ n
+blocks-whole w n l p h = ap (blocks w) h ∙ blocks-times w n p
+
 -- n whole blocks more
 pub blocks-add : (w n k : ℕ) → 0 < w → blocks w (n * w + k) ≡ n + blocks w k
 unfolding blocks
@@ -125,7 +128,7 @@ module _ (E D : List ℕ → List ℕ) (w : ℕ) (pos : 0 < w) (law : Undone E D
 -- for n whole blocks
 module _ (E D : List ℕ → List ℕ) (w : ℕ) (pos : 0 < w) (law : Undone E D w) (iv l : List ℕ) (g : Block w iv) (b : Bytes l) (n : ℕ) (h : length l ≡ n * w) where
   count : blocks w (length l) ≡ n
-  count = ap (blocks w) h ∙ blocks-times w n pos
+  count = blocks-whole w n l pos h
 
   length-cbcEncrypt : length (cbcEncrypt E w iv l) ≡ length l
   unfolding cbcEncrypt
@@ -161,20 +164,17 @@ module _ (E D : List ℕ → List ℕ) (w : ℕ) (pos : 0 < w) (law : Undone E D
 
 -- lengths go by lengths alone, where the cipher always gives w bytes
 module _ (CIPH : List ℕ → List ℕ) (w : ℕ) (pos : 0 < w) (long : (b : List ℕ) → length (CIPH b) ≡ w) (iv l : List ℕ) (g : length iv ≡ w) (n : ℕ) (h : length l ≡ n * w) where
-  cbc-blocks : blocks w (length l) ≡ n
-  cbc-blocks = ap (blocks w) h ∙ blocks-times w n pos
-
   pub cbcEncrypt-long : length (cbcEncrypt CIPH w iv l) ≡ length l
   unfolding cbcEncrypt cbcOut
   cbcEncrypt-long =
-      rw cbc-blocks
+      rw (blocks-whole w n l pos h)
       (length-chain _ _ w (λ s. Unit {0}) (λ m c. (tt, tt)) (λ s b i p j q. long _) (λ s b i p j q. (long _, tt)) n iv l g tt h tt
       ∙ sym h)
 
   pub cbcDecrypt-long : length (cbcDecrypt CIPH w iv l) ≡ length l
   unfolding cbcDecrypt cbcBack
   cbcDecrypt-long =
-      rw cbc-blocks
+      rw (blocks-whole w n l pos h)
       (length-chain _ _ w (λ s. Unit {0}) (λ m c. (tt, tt)) (λ s b i p j q. length-xor w (CIPH b) s (long b) i) (λ s b i p j q. (j, tt)) n iv l g tt h tt
       ∙ sym h)
 
@@ -281,7 +281,7 @@ module _ (CIPH : List ℕ → List ℕ) (w : ℕ) where
   ofb-parts pos n iv a b h =
       ap (λ (k : ℕ). run iv k (a ++ b)) (ap (blocks w) (length-append a b ∙ ap (λ (k : ℕ). k + length b) h) ∙ blocks-add w n (length b) pos)
       ∙ run-parts n (blocks w (length b)) iv a b h
-      ∙ ap (λ (k : ℕ). run iv k a ++ run (ofbInput CIPH w n iv) (blocks w (length b)) b) (sym (ap (blocks w) h ∙ blocks-times w n pos))
+      ∙ ap (λ (k : ℕ). run iv k a ++ run (ofbInput CIPH w n iv) (blocks w (length b)) b) (sym (blocks-whole w n a pos h))
 
   -- what the cipher keeps, an input block keeps
   pub good-input : (Good : List ℕ → Type 0) → ((b : List ℕ) → Good b → Good (CIPH b)) → (n : ℕ) (iv : List ℕ) → Good iv → Good (ofbInput CIPH w n iv)

@@ -5,7 +5,7 @@ use mathlib.Core.List.{List}
 use mathlib.Core.Logic.{_↔_, _⊎_, inl, inr, ⊎-elim}
 use Prim.Native.Nat.{ℕ, _+_, _-_, _≤_, _<_}
 use native.Mathlib.Omega.{arith}
-use lib.Dec.{eqb, lit<}
+use lib.Dec.{eqb}
 use lib.ListN.{length}
 use Rattle.cipher.proofs.Numbers.{le-or-lt}
 use Rattle.answer.specs.Outcome.{Outcome, accepted, choose, firstOf}
@@ -45,32 +45,29 @@ module _ (scheme : ℕ) (c id payload : List ℕ) (code number room : ℕ) where
       let w = seals scheme c id payload code number room known (s .six) (s .all) (s .short) (s .fits) in
       (f .0, f .1 ∙ sym (length-sealed scheme c id payload code number known (s .six) (s .all)) ∙ ap (λ (o : Outcome). length (o .bytes)) (sym w))
 
-  -- ID and credentials have their fixed lengths: the number of sealing
+  -- where ID and credentials have their fixed lengths, the payload's length and the room decide
   module _ (known : (scheme ≡ 1) ⊎ (scheme ≡ 2)) (six : length id ≡ 6) (all : length c ≡ choose (eqb scheme 1) 8 36) where
     long-12 : longest scheme < length payload → sealing scheme c code number id payload room .number ≡ 12
     long-12 h = ap (λ (o : Outcome). o .number) (seals-12 scheme c id payload code number room known six all h) ∙ refused-number 12
 
-    module _ (short : length payload ≤ longest scheme) where
-      enough : sealedSize scheme (length payload) ≤ room → sealing scheme c code number id payload room .number ≡ 0
-      enough h = ap (λ (o : Outcome). o .number) (seals scheme c id payload code number room known six all short h) ∙ accepted-zero 0 _
+    by-room : length payload ≤ longest scheme
+        → ((sealedSize scheme (length payload) ≤ room) × (sealing scheme c code number id payload room .number ≡ 0))
+        ⊎ ((room < sealedSize scheme (length payload)) × (sealing scheme c code number id payload room .number ≡ 16))
+    by-room short =
+        ⊎-elim
+        (λ (h : sealedSize scheme (length payload) ≤ room).
+        inl (h, ap (λ (o : Outcome). o .number) (seals scheme c id payload code number room known six all short h) ∙ accepted-zero 0 _))
+        (λ (h : room < sealedSize scheme (length payload)).
+        inr (h, ap (λ (o : Outcome). o .number) (seals-16 scheme c id payload code number room known six all short h) ∙ refused-number 16))
+        (le-or-lt (sealedSize scheme (length payload)) room)
 
-      less : room < sealedSize scheme (length payload) → sealing scheme c code number id payload room .number ≡ 16
-      less h = ap (λ (o : Outcome). o .number) (seals-16 scheme c id payload code number room known six all short h) ∙ refused-number 16
-
-      -- and nothing else
-      zero-or-16 : (sealing scheme c code number id payload room .number ≡ 0) ⊎ (sealing scheme c code number id payload room .number ≡ 16)
-      zero-or-16 =
-          ⊎-elim
-          (λ (h : sealedSize scheme (length payload) ≤ room). inl (enough h))
-          (λ (h : room < sealedSize scheme (length payload)). inr (less h))
-          (le-or-lt (sealedSize scheme (length payload)) room)
-
-      neither : (k : ℕ) → 0 < k → (k ≡ 16 → ⊥) → sealing scheme c code number id payload room .number ≡ k → ⊥
-      neither k h i e =
-          ⊎-elim
-          (λ (z : sealing scheme c code number id payload room .number ≡ 0). omega arith)
-          (λ (z : sealing scheme c code number id payload room .number ≡ 16). i (sym e ∙ z))
-          zero-or-16
+    -- and nothing else
+    neither : length payload ≤ longest scheme → (k : ℕ) → (k ≡ 0 → ⊥) → (k ≡ 16 → ⊥) → sealing scheme c code number id payload room .number ≡ k → ⊥
+    neither short k zero full e =
+        ⊎-elim
+        (λ (t : (sealedSize scheme (length payload) ≤ room) × (sealing scheme c code number id payload room .number ≡ 0)). zero (sym e ∙ t .1))
+        (λ (t : (room < sealedSize scheme (length payload)) × (sealing scheme c code number id payload room .number ≡ 16)). full (sym e ∙ t .1))
+        (by-room short)
 
   -- where the forecast answers 0, and ID and credentials have their fixed lengths, an output of the forecast size is enough, and one byte less
   -- is not
@@ -80,18 +77,16 @@ module _ (scheme : ℕ) (c id payload : List ℕ) (code number room : ℕ) where
   forecast-room z six all =
       let k = foretold-only scheme (length payload) z in
       let size : forecasting scheme (length payload) .size ≡ sealedSize scheme (length payload) = foretold-sealed scheme (length payload) (k .0) (k .1) .1 in
-      rw size (
-        (λ e. seals-only scheme c id payload code number room (k .0) e .fits, enough (k .0) six all (k .1)),
-        (λ e. short-of e (enough (k .0) six all (k .1)), less (k .0) six all (k .1)),
-      )
-    where
-      short-of : sealing scheme c code number id payload room .number ≡ 16 → (sealedSize scheme (length payload) ≤ room → sealing scheme c code number id payload room .number ≡ 0)
-          → room < sealedSize scheme (length payload)
-      short-of e f =
-          ⊎-elim
-          (λ (h : sealedSize scheme (length payload) ≤ room). let q = f h in absurd (omega arith))
-          (λ (h : room < sealedSize scheme (length payload)). h)
-          (le-or-lt (sealedSize scheme (length payload)) room)
+      ⊎-elim
+      (λ (t : (sealedSize scheme (length payload) ≤ room) × (sealing scheme c code number id payload room .number ≡ 0)).
+      let a = t .0 in
+      let b = t .1 in
+      ((λ e. omega arith, λ h. b), (λ e. absurd (omega arith), λ h. absurd (omega arith))))
+      (λ (t : (room < sealedSize scheme (length payload)) × (sealing scheme c code number id payload room .number ≡ 16)).
+      let a = t .0 in
+      let b = t .1 in
+      ((λ e. absurd (omega arith), λ h. absurd (omega arith)), (λ e. omega arith, λ h. b)))
+      (by-room (k .0) six all (k .1))
 
   -- the refusals are those of sealing. For marks 1 and 2, where ID and credentials have their fixed lengths: 12 for the same payloads, whatever
   -- the room, and never 17. For every other mark: 17
@@ -104,9 +99,9 @@ module _ (scheme : ℕ) (c id payload : List ℕ) (code number room : ℕ) where
     λ known six all. ⊎-elim
         (λ (h : length payload ≤ longest scheme).
         let f = foretold-size scheme (length payload) known h .0 in (
-          (λ e. absurd (omega arith), λ e. absurd (neither known six all h 12 (lit< tt) (λ q. omega arith) e)),
+          (λ e. absurd (omega arith), λ e. absurd (neither known six all h 12 (λ q. omega arith) (λ q. omega arith) e)),
           λ e. omega arith,
-          neither known six all h 17 (lit< tt) (λ q. omega arith),
+          neither known six all h 17 (λ q. omega arith) (λ q. omega arith),
         ))
         (λ (h : longest scheme < length payload).
         let f = foretold-12 scheme (length payload) known h .0 in

@@ -5,8 +5,9 @@ use mathlib.Core.List.{List}
 use mathlib.Core.Logic.{_⊎_, inl, inr, ⊎-elim}
 use Prim.Native.Nat.{ℕ, _+_, _-_, _≤_, _<_}
 use native.Mathlib.Omega.{arith}
-use borrow.Author.Tests.{eqb-true, ne-eqb, lt-ltb, le-ltb, ltb-false}
+use borrow.Author.Tests.{eqb-true, eqb-false, ne-eqb, lt-ltb, le-ltb}
 use lib.Dec.{eqb}
+use Rattle.cipher.proofs.Numbers.{le-or-lt}
 use Rattle.answer.specs.declared.answer.Answer.{Answer}
 use Rattle.answer.specs.Outcome.{Outcome, refused, choose, firstOf}
 use Rattle.frame.specs.AesFrame.{aesSealing, aesOpening}
@@ -14,12 +15,20 @@ use Rattle.frame.specs.DesFrame.{desSize, desSealing, desOpening}
 use Rattle.frame.specs.Forecast.{upToEights, forecastSize, forecastRows, forecasting}
 use Rattle.frame.specs.Padding.{padCount}
 use Rattle.frame.specs.Scheme.{byScheme, sealing, opening, framing, responding, longest}
-use Rattle.answer.specs.Tests.{isnt, either, both}
-use Rattle.answer.proofs.Rows.{Refused, numbered, first-passes, isnt-false}
-use Rattle.answer.proofs.Refusals.{Whole, refused-whole, choose-whole, decide-whole, accepted-whole, delivering-whole}
+use Rattle.answer.specs.Tests.{isnt, either}
+use Rattle.answer.proofs.Rows.{Refused}
+use Rattle.answer.proofs.Refusals.{Whole, refused-number, refused-whole, choose-whole, decide-whole, accepted-whole, delivering-whole}
 use Rattle.frame.proofs.WorkBlocks.{framing-refusal}
 
 -- ---- marks
+
+-- a mark is known, or it is neither 1 nor 2
+pub marks : (s : ℕ) → ((s ≡ 1) ⊎ (s ≡ 2)) ⊎ ((s ≡ 1 → ⊥) × (s ≡ 2 → ⊥))
+marks s = by (eqb s 1) refl (eqb s 2) refl where
+  by : (p : Bool) → eqb s 1 ≡ p → (q : Bool) → eqb s 2 ≡ q → ((s ≡ 1) ⊎ (s ≡ 2)) ⊎ ((s ≡ 1 → ⊥) × (s ≡ 2 → ⊥))
+  by true e q f = inl (inl (eqb-true s 1 e))
+  by false e true f = inl (inr (eqb-true s 2 f))
+  by false e false f = inr (eqb-false s 1 e, eqb-false s 2 f)
 
 module _ (s : ℕ) (a b : Outcome) where
   pub mark-des : s ≡ 1 → byScheme s a b ≡ a
@@ -36,13 +45,13 @@ module _ (s : ℕ) (a b : Outcome) where
 
   -- an acceptance has a known mark
   mark-known : byScheme s a b .number ≡ 0 → (s ≡ 1) ⊎ (s ≡ 2)
-  unfolding byScheme choose refused
-  mark-known z = go (eqb s 1) refl (eqb s 2) refl
-    where
-      go : (p : Bool) → eqb s 1 ≡ p → (q : Bool) → eqb s 2 ≡ q → (s ≡ 1) ⊎ (s ≡ 2)
-      go true e q f = inl (eqb-true s 1 e)
-      go false e true f = inr (eqb-true s 2 f)
-      go false e false f = let n : _≡_ {A = ℕ} 17 0 = rw (e, f) at z in absurd (omega arith)
+  mark-known z =
+      ⊎-elim
+      (λ (k : (s ≡ 1) ⊎ (s ≡ 2)). k)
+      (λ (n : (s ≡ 1 → ⊥) × (s ≡ 2 → ⊥)).
+      let q : byScheme s a b .number ≡ 17 = ap (λ (o : Outcome). o .number) (mark-unknown (n .0) (n .1)) ∙ refused-number 17 in
+      absurd (omega arith))
+      (marks s)
 
 -- a sealing of 0 has a known mark
 pub sealing-known : (scheme : ℕ) (c id payload : List ℕ) (code number room : ℕ) → sealing scheme c code number id payload room .number ≡ 0 → (scheme ≡ 1) ⊎ (scheme ≡ 2)
@@ -112,17 +121,17 @@ module _ (scheme n : ℕ) where
     unfolding forecastRows firstOf choose
     foretold-size h = forecast-by 0 (rw (passes-17, le-ltb (longest scheme) n h))
 
-  known-of : (p : Bool) → eqb scheme 1 ≡ p → either (eqb scheme 1) (eqb scheme 2) ≡ true → (scheme ≡ 1) ⊎ (scheme ≡ 2)
-  unfolding either
-  known-of true e t = inl (eqb-true scheme 1 e)
-  known-of false e t = inr (eqb-true scheme 2 (rw e at t))
-
   -- a forecast of 0 has a known mark and a payload that is not too long
   pub foretold-only : forecasting scheme n .number ≡ 0 → ((scheme ≡ 1) ⊎ (scheme ≡ 2)) × (n ≤ longest scheme)
-  unfolding forecasting forecastRows numbered both
   foretold-only z =
-      let a = first-passes (forecastRows scheme n) (forecasting scheme n .number) refl refl z in
-      (known-of (eqb scheme 1) refl (isnt-false _ (a .0)), ltb-false _ _ (a .1 .0))
+      ⊎-elim
+      (λ (k : (scheme ≡ 1) ⊎ (scheme ≡ 2)).
+      ⊎-elim
+      (λ (h : n ≤ longest scheme). (k, h))
+      (λ (h : longest scheme < n). let q = foretold-12 k h .0 in absurd (omega arith))
+      (le-or-lt n (longest scheme)))
+      (λ (m : (scheme ≡ 1 → ⊥) × (scheme ≡ 2 → ⊥)). let q = foretold-17 (m .0) (m .1) .0 in absurd (omega arith))
+      (marks scheme)
 
   module _ (r : Answer) where
     -- what `forecast` ensures
