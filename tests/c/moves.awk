@@ -1,5 +1,5 @@
-# Writes the header so that each constant, each size by a rule, and each shift and mask of an accessor, can be moved: MOVED in the environment names it, BY says
-# by how much.
+# Writes the header so that each constant, each size by a rule, and each shift and mask of an accessor, can be moved: MOVED in the
+# environment names it, BY says by how much.
 /^#include <stdint.h>/ {
     print
     print "#include <stdlib.h>"
