@@ -3,7 +3,7 @@ ghost use Rattle.std.specs.Prelude.{◌≡◌};
 
 // number: 0, or that of the refusal; length: how many bytes were written, or the size that a forecast gives; transaction_number: that of what was
 // opened, or a session's after its step. A refusal has 0 in both other fields.
-#[derive(Drop)]
+#[derive(Clone, Copy)]
 pub struct Answer {
     pub number: u8,
     pub length: u16,

@@ -1,6 +1,8 @@
 // The operations of `cipher` as C functions, for the benchmark. Each copies its keys and its block to
 // arrays, calls one function of `cipher` and copies the result back; a slice that is shorter than a
 // key or a block stands for itself followed by zeros.
+#![tactic(auto)]
+
 ghost use Rattle.std.specs.Prelude.{◌≡◌, replicate};
 ghost use Rattle.bench.specs.Parts.{fit, flag, over};
 ghost use Rattle.cipher.specs.Fips197.{aes_decrypt, aes_encrypt};

@@ -6,7 +6,7 @@ ghost use Rattle.cipher.specs.Fips197.{inv_s_box, inv_rounds, inv_cipher, aes_en
 ghost use Rattle.cipher.specs.inner.AesTables.{diagonal, rot_right, mixed_column, NextKey, MixTable, TeTable, UTable, InvSTable};
 
 // A state, or four words of the key schedule.
-#[derive(Drop)]
+#[derive(Clone, Copy)]
 pub(crate) struct Columns {
     pub(crate) a: u32,
     pub(crate) b: u32,

@@ -1,5 +1,7 @@
 // Block ciphers and modes, from the standards: AES-128 (FIPS 197), DES and triple DES (FIPS 46-3), CBC and OFB (SP 800-38A),
 // CMAC (SP 800-38B). Nothing of FeliCa stands here. No public function asks anything of its caller.
+#![tactic(auto)]
+
 mod aes;
 mod bytes;
 mod cbc;

@@ -99,7 +99,7 @@ pub fn encrypt_authentication2_payload(key: &[u8], payload: &[u8], out: &mut [u8
 }
 
 // What a response says before its payload.
-#[derive(Drop)]
+#[derive(Clone, Copy)]
 pub(crate) struct SecureResponseHeader {
     pub(crate) transaction_number: u16,
     pub(crate) transaction_id: [u8; 6],
@@ -107,7 +107,7 @@ pub(crate) struct SecureResponseHeader {
 
 // A parsed response: its header, and the payload inside the plain text, without the MAC. Functions with it as parameter or answer are
 // proved by hand (docs/DECISIONS.md), so all that decides something stands in functions without it.
-#[derive(Drop)]
+#[derive(Clone, Copy)]
 pub(crate) struct SecureResponse<'a> {
     pub(crate) header: SecureResponseHeader,
     pub(crate) payload: &'a [u8],

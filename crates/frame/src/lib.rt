@@ -1,6 +1,8 @@
 // Sealed frames of the FeliCa secure session, in both schemes: the sealing and opening of commands and responses, response frames,
 // Authentication 2, the size forecast; registration packages for DES. No public function asks anything of its caller; a refusal has a
 // number and writes nothing.
+#![tactic(auto)]
+
 mod command;
 mod des;
 mod package;

@@ -3,7 +3,7 @@ use crate::{challenge, derive, sealed, steps};
 use answer::Answer;
 
 // What a case asks for. What has a scheme is asked by scheme, and of the scheme's own operation alone.
-#[derive(Drop)]
+#[derive(Clone, Copy)]
 pub(crate) enum Kind {
     Seal,
     SealAlone,
@@ -28,7 +28,7 @@ pub(crate) enum Kind {
 
 // An answer, of a call or stored: its number, how many bytes it has, the scheme mark, and the one other value
 // (transaction number, node, index, or 1 for yes). What the operation does not have is 0.
-#[derive(Drop)]
+#[derive(Clone, Copy)]
 pub(crate) struct Given {
     pub(crate) number: u8,
     pub(crate) length: u16,

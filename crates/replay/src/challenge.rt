@@ -3,7 +3,7 @@ use crate::field;
 use answer::Answer;
 
 // Which challenge a line is about, by its field 1.
-#[derive(Drop)]
+#[derive(Clone, Copy)]
 enum Which {
     OneA,
     OneB,

@@ -7,7 +7,7 @@ use session::{AuthenticatedContext, Received};
 use textfile::Tally;
 
 // The checks so far, and the session.
-#[derive(Drop)]
+#[derive(Clone, Copy)]
 struct Run {
     tally: Tally,
     context: AuthenticatedContext,
@@ -149,14 +149,14 @@ fn set(run: Run, number: u16) -> Run {
 // ---- The response step, in one scheme
 
 // What a response is sealed with: the last byte of the ID (0x16 is the session's), and the number.
-#[derive(Drop)]
+#[derive(Clone, Copy)]
 struct Response {
     id: u8,
     number: u16,
 }
 
 // What is to come of it: the answer, and the session's number and count.
-#[derive(Drop)]
+#[derive(Clone, Copy)]
 struct Wanted {
     answer: u8,
     number: u16,

@@ -134,7 +134,7 @@ fn way_out(so_far: Tally, scheme: u8, reader: &[u8], card: &[u8]) -> Tally {
 }
 
 // The checks so far, and the random 2 that the reader read.
-#[derive(Drop)]
+#[derive(Clone, Copy)]
 struct Second {
     tally: Tally,
     random: [u8; 16],

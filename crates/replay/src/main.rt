@@ -4,6 +4,8 @@
 // what it has, a line that starts with '#' is a comment, and each other line is a case: the operation's
 // name, its inputs and the answer, parted by single blanks, with byte strings in hex ('-' for the empty
 // one) and numbers in decimal (case.rt says which stands where). The table is that of crate `textfile`.
+#![tactic(auto)]
+
 mod call;
 mod case;
 mod challenge;

@@ -4,7 +4,7 @@ use crate::field;
 use answer::Answer;
 
 // The numbers among the inputs.
-#[derive(Drop)]
+#[derive(Clone, Copy)]
 struct Asked {
     scheme: u8,
     code: u8,

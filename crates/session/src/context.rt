@@ -10,7 +10,7 @@ use crate::types;
 use answer::Answer;
 
 // nodes has node_count nodes of two bytes each, the low byte first. A DES session key is the first 8 bytes of credentials.
-#[derive(Drop)]
+#[derive(Clone, Copy)]
 pub struct AuthenticatedContext {
     transaction_number: u16,
     transaction_id: [u8; 6],
@@ -22,21 +22,21 @@ pub struct AuthenticatedContext {
 }
 
 // What making a session answers: 17, 1 or 0, and the session, which after a refusal is all zeros.
-#[derive(Drop)]
+#[derive(Clone, Copy)]
 pub struct Made {
     pub number: u8,
     pub context: AuthenticatedContext,
 }
 
 // What a step of the number answers: 9, or 0 and the new number; and the session after it.
-#[derive(Drop)]
+#[derive(Clone, Copy)]
 pub struct Stepped {
     pub answer: Answer,
     pub context: AuthenticatedContext,
 }
 
 // What a response step answers: the answer of an opening, and the session after it.
-#[derive(Drop)]
+#[derive(Clone, Copy)]
 pub struct Received {
     pub answer: Answer,
     pub context: AuthenticatedContext,

@@ -4,7 +4,7 @@ ghost use Rattle.cipher.specs.Bytes.{◌⊕◌};
 ghost use Rattle.cipher.specs.Fips46.{des_encrypt, tdea2_encrypt, tdea2_decrypt};
 ghost use Rattle.answer.specs.Tests.{same};
 
-#[derive(Drop)]
+#[derive(Clone, Copy)]
 pub struct AuthenticationContext {
     l: [u8; 8],
     alpha: [u8; 8],

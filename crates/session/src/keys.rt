@@ -16,7 +16,7 @@ const NODE_KEY_INIT: [u8; 16] =
     *b"\x01\x01\x00\x00\x00\x00\x00\x00\x00\x00\x00\x00\x00\x00\x00\x80";
 
 // The answer; the node that lacks a key, where the answer's number is 4; the scheme mark that was used, 0 with a refusal.
-#[derive(Drop)]
+#[derive(Clone, Copy)]
 pub struct DerivedAuthKeys {
     pub answer: Answer,
     pub node: u16,
@@ -24,7 +24,7 @@ pub struct DerivedAuthKeys {
 }
 
 // The scheme by which a derivation goes on; or the refusal of its target, with the node for 4.
-#[derive(Drop)]
+#[derive(Clone, Copy)]
 struct Choice {
     number: u8,
     node: u16,
@@ -32,7 +32,7 @@ struct Choice {
 }
 
 // Keys gathered so far, size bytes of them; or the refusal of a node that lacks its key.
-#[derive(Drop)]
+#[derive(Clone, Copy)]
 struct Gathered {
     number: u8,
     node: u16,

@@ -1,5 +1,7 @@
 // The FeliCa secure session: service codes, key derivation, challenges of the authentication, and the session after it. No public function asks
 // anything of its caller; a refusal has a number and writes nothing.
+#![tactic(auto)]
+
 mod challenge;
 mod context;
 mod des;

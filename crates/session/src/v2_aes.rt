@@ -11,13 +11,13 @@ const DERIVE_ENCRYPTION_KEY_INPUT: [u8; 16] =
 const DERIVE_MAC_KEY_INPUT: [u8; 16] =
     *b"\x02\x03\x00\x00\x00\x00\x00\x00\x00\x00\x00\x00\x00\x00\x01\x00";
 
-#[derive(Drop)]
+#[derive(Clone, Copy)]
 pub struct AuthenticationContextV2Aes128 {
     alpha: [u8; 16],
     beta: [u8; 16],
 }
 
-#[derive(Drop)]
+#[derive(Clone, Copy)]
 pub struct SecureSessionKeys {
     pub encryption_key: [u8; 16],
     pub mac_key: [u8; 16],

@@ -1,4 +1,6 @@
 // Data files of cases, one to a line: how a program reads a file and its lines, and the table that it prints.
+#![tactic(auto)]
+
 mod table;
 mod text;
 

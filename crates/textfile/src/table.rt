@@ -8,7 +8,7 @@ use libc::STDOUT_FILENO;
 
 // How many cases ran, how many agreed, and how many of these depart. The counts wrap, but not below 2^64
 // cases.
-#[derive(Drop)]
+#[derive(Clone, Copy)]
 pub struct Tally {
     pub ran: u64,
     pub agreed: u64,
@@ -16,7 +16,7 @@ pub struct Tally {
 }
 
 // A case departs that agrees with an answer which stands in place of its source's.
-#[derive(Drop)]
+#[derive(Clone, Copy)]
 pub enum Verdict {
     Comment,
     Agrees,

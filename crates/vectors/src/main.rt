@@ -6,6 +6,8 @@
 // are). A vector agrees where every direction gives every byte.
 //
 // The table is that of crate `textfile`.
+#![tactic(auto)]
+
 mod vector;
 
 use textfile::Tally;

@@ -2,7 +2,7 @@
 use textfile::Verdict;
 
 // What the four fields of a set's lines are.
-#[derive(Drop)]
+#[derive(Clone, Copy)]
 pub(crate) enum Kind {
     // key, -, plaintext, ciphertext: one block of AES-128
     Aes,
