@@ -405,7 +405,7 @@ pub(crate) fn sp_table() -> [u32; 512]
 pub(crate) fn pc2_table() -> [u32; 1024]
     ensures { Pc2Table result }
 {
-    PC2
+    PC2_ENTRIES
 }
 
 // S and P together, turned left by one: 64 entries for each of S1 to S8.
@@ -467,7 +467,7 @@ const SP: [u32; 512] = [
 ];
 
 // PC-2 of seven bits at a time: 128 entries for each seven bits of C and D.
-const PC2: [u32; 1024] = [
+const PC2_ENTRIES: [u32; 1024] = [
     0x0, 0x100000, 0x4000000, 0x4100000, 0x100, 0x100100, 0x4000100, 0x4100100, 0x4, 0x100004,
     0x4000004, 0x4100004, 0x104, 0x100104, 0x4000104, 0x4100104, 0x20000000, 0x20100000,
     0x24000000, 0x24100000, 0x20000100, 0x20100100, 0x24000100, 0x24100100, 0x20000004, 0x20100004,

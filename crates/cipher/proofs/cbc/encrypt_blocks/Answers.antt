@@ -1,0 +1,37 @@
+use mathlib.Core.Path.{refl}
+use native.Mathlib.Omega.{arith}
+use lib.Dec.{lit<}
+use Rattle.cipher.specs.inner.DesWith.{des_with}
+use Rattle.cipher.specs.Sp80038a.{cbc_encrypt}
+use Rattle.cipher.proofs.Chains.{run_start, run_done}
+use Rattle.cipher.proofs.Modes.{cbc_turn}
+use Rattle.cipher.proofs.cbc.encrypt_blocks.Goals as goal
+
+pub loop-at-init : goal.loop-at-init
+loop-at-init c = (refl, c.requires.data_len, run_start _ _ 8 _ _)
+
+pub load8-plain-requires : goal.load8-plain-requires
+load8-plain-requires c = let v = c.loop-at.invariant in let e = v.2.same in omega arith
+
+pub encrypt_with-output-requires : goal.encrypt_with-output-requires
+encrypt_with-output-requires c = record { sp_table = c.requires.sp_table; ks_len = c.requires.ks_len }
+
+pub store8-requires : goal.store8-requires
+store8-requires c = let v = c.loop-at.invariant in let e = v.2.same in omega arith
+
+pub overflow_add-at : goal.overflow_add-at
+overflow_add-at c = let v = c.loop-at.invariant in let e = v.2.same in omega arith
+
+pub loop-at-smaller : goal.loop-at-smaller
+loop-at-smaller c = let v = c.loop-at.invariant in let e = v.2.same in omega arith
+
+pub loop-at-preserved : goal.loop-at-preserved
+unfolding des_with
+loop-at-preserved c =
+    let v = c.loop-at.invariant in
+    let e = v.2.same in
+    (omega arith, v.1, cbc_turn (des_with c.args.ks.now) 8 (lit< tt) (omega arith) _ _ _ _ c.load8-plain.ensures (omega arith) c.store8.ensures c.xor_blocks-input.ensures c.encrypt_with-output.ensures v.2)
+
+pub returns : goal.returns
+unfolding cbc_encrypt
+returns c = let v = c.loop-at.invariant in run_done _ _ 8 (lit< tt) v.2 (omega arith)
