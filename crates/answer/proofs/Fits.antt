@@ -1,9 +1,9 @@
 -- The first n bytes of a string. Assumes nothing.
 use mathlib.Core.Path.{◌≡◌, refl, ◌∙◌}
-use mathlib.Core.List.{List, [], ◌∷◌, ◌++◌, append-nil}
-use Prim.Native.Nat.{ℕ, ◌+◌, ◌*◌, ◌≤◌}
+use mathlib.Core.List.{List, [], ◌∷◌, append-nil}
+use Prim.Native.Nat.{ℕ, ◌≤◌}
 use native.Mathlib.Omega.{arith}
-use lib.ListN.{length, take, drop, replicate, get_or, length-replicate, drop_of_length-le}
+use lib.ListN.{length, replicate, length-replicate, drop_of_length-le}
 use lib.Seq.{take_all}
 use Rattle.answer.specs.Fixed.{fit}
 use Rattle.answer.specs.Number.{number_of}
