@@ -5,7 +5,7 @@ use Prim.Native.Nat.{ℕ, suc, ◌+◌, ◌-◌, ◌/◌, ◌%◌, ◌≤◌, �
 use native.Mathlib.Omega.{arith}
 use borrow.Author.Tests.{ltb-false}
 use lib.Dec.{eqb, ltb}
-use lib.ListN.{length, take, drop, set, replicate, length-append, length-set, length-replicate}
+use lib.ListN.{length, take, drop, set, replicate, length-append, length-set}
 use lib.Seq.{length-take-le}
 use Rattle.cipher.specs.Fips46.{des_encrypt}
 use Rattle.cipher.specs.Sp80038a.{cbc_encrypt, on_whole}

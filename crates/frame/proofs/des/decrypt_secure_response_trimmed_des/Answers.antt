@@ -1,0 +1,54 @@
+use mathlib.Core.Path.{◌≡◌, refl, sym, ap, ◌∙◌}
+use Prim.Native.Nat.{◌≤◌}
+use native.Mathlib.Omega.{arith}
+use lib.ListN.{length, replicate}
+use lib.Seq.{length-take-le}
+use Rattle.cipher.specs.Bytes.{Bytes}
+use Rattle.answer.specs.Number.{number_of}
+use Rattle.answer.specs.Outcome.{Outcome, accepted, over}
+use Rattle.frame.specs.DesFrame.{des_plain, payload_of}
+use Rattle.frame.specs.Trimmed.{trim}
+use Rattle.answer.proofs.Rows.{refused_meets, delivers_meets}
+use Rattle.answer.proofs.Outputs.{front}
+use Rattle.frame.proofs.Trims.{trim_no_longer, trimmed_refuses, trimmed_opens}
+use Rattle.frame.proofs.des.decrypt_secure_response_trimmed_des.Goals as goal
+
+pub returns-then-refusal-ne0 : goal.returns-then-refusal-ne0
+returns-then-refusal-ne0 c =
+    let a = c.args in
+    let b : Bytes a.«data».now = λ j. omega (arith, c.shared_slice_known-3-1.given j) in
+    rw (trimmed_refuses a.key.now a.id.now a.«data».now a.code b _ c.decrypt_secure_response_des-opened.ensures.number (length a.out.now) c.if-refusal-ne0.true) (refused_meets _ _ a.out.now c.refused.ensures)
+
+pub slice_bounds-work-end : goal.slice_bounds-work-end
+unfolding accepted
+slice_bounds-work-end c =
+    let a = c.args in
+    let b : Bytes a.«data».now = λ j. omega (arith, c.shared_slice_known-3-1.given j) in
+    let t = trimmed_opens a.key.now a.id.now a.«data».now a.code b _ c.decrypt_secure_response_des-opened.ensures.number (length a.out.now) c.if-refusal-ne0.false in
+    let n = c.decrypt_secure_response_des-opened.ensures.length_is ∙ ap (λ (o : Outcome). length o.bytes) t.0 in
+    let s = t.2 in
+    omega arith
+
+pub slice_bounds-trim_payload-end : goal.slice_bounds-trim_payload-end
+unfolding accepted
+slice_bounds-trim_payload-end c = sym (length-take-le _ _ ((let a = c.args in
+    let b : Bytes a.«data».now = λ j. omega (arith, c.shared_slice_known-3-1.given j) in
+    let t = trimmed_opens a.key.now a.id.now a.«data».now a.code b _ c.decrypt_secure_response_des-opened.ensures.number (length a.out.now) c.if-refusal-ne0.false in
+    let n = c.decrypt_secure_response_des-opened.ensures.length_is ∙ ap (λ (o : Outcome). length o.bytes) t.0 in
+    let s = t.2 in
+    omega arith)))
+
+pub returns : goal.returns
+unfolding accepted
+returns c =
+    let a = c.args in
+    let b : Bytes a.«data».now = λ j. omega (arith, c.shared_slice_known-3-1.given j) in
+    let t = trimmed_opens a.key.now a.id.now a.«data».now a.code b _ c.decrypt_secure_response_des-opened.ensures.number (length a.out.now) c.if-refusal-ne0.false in
+    let m = c.decrypt_secure_response_des-opened.ensures in
+    let pl = payload_of (des_plain a.key.now a.«data».now) in
+    let n : c.decrypt_secure_response_des-opened.result.length ≡ length pl = m.length_is ∙ ap (λ (o : Outcome). length o.bytes) t.0 in
+    let x : c.decrypt_secure_response_des-opened.result.transaction_number ≡ number_of (des_plain a.key.now a.«data».now) = m.transaction ∙ ap (λ (o : Outcome). o.transaction) t.0 in
+    let w = front pl (replicate 256 0) c.decrypt_secure_response_des-opened.new.out _ (sym n) (m.output ∙ ap (λ (o : Outcome). over o.bytes (replicate 256 0)) t.0) in
+    let y : c.trim_payload-payload.result.now ≡ trim pl = c.trim_payload-payload.ensures ∙ ap trim w in
+    let l : length (trim pl) ≤ 65535 = trim_no_longer pl (trim pl) 65535 refl (omega (arith, t.2)) in
+    rw t.1 (delivers_meets _ _ _ (rw y at (rw x at c.deliver.ensures)) l)
