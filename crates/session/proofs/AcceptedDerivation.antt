@@ -6,7 +6,7 @@ use mathlib.Core.Logic.{◌⊎◌, inl, inr}
 use Prim.Native.Nat.{ℕ, zero, suc, ◌+◌, ◌*◌}
 use native.Mathlib.Omega.{arith}
 use borrow.Author.Tests.{ne_eqb, eqb-true}
-use lib.Dec.{eqb, lit≤, lit<}
+use lib.Dec.{eqb, lit<}
 use lib.ListN.{length, replicate, length-append, length-replicate}
 use Rattle.cipher.specs.Bytes.{Bytes}
 use Rattle.cipher.proofs.ByteLists.{Block, Bytes-nil, Bytes-cons, Bytes-append, Bytes-replicate}

@@ -6,7 +6,6 @@
 -- Gathering: the keys of nodes, gathered one behind the other
 -- Histories: the true count, and the number, over a session's whole history
 -- KeySearch: the search for a key, an unknown algorithm, a key that stands twice
--- LentSession: what the proofs by hand of functions on a lent session share
 -- NodeLists: the nodes of a list, and those that bear a key
 -- Nodes: the search for a node in a session's list
 -- SeenKeys: what a derivation sees of the key entries, and its number past the rows 17, 1 and 2
@@ -19,7 +18,6 @@ pub mod Exchanges
 pub mod Gathering
 pub mod Histories
 pub mod KeySearch
-pub mod LentSession
 pub mod NodeLists
 pub mod Nodes
 pub mod SeenKeys

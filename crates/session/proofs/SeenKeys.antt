@@ -6,17 +6,13 @@ use mathlib.Core.List.{List, [], ◌∷◌, ◌++◌}
 use Prim.Native.Nat.{ℕ, zero, suc, ◌≤◌}
 use native.Mathlib.Omega.{arith}
 use borrow.Author.Tests.{ltb-false, le-ltb}
-use lib.Dec.{eqb, ltb}
-use lib.ListN.{length, take}
+use lib.Dec.{eqb}
+use lib.ListN.{length}
 use lib.Seq.{take-nil}
-use Rattle.cipher.specs.Bytes.{Bytes}
-use Rattle.cipher.specs.Fips197.{aes_encrypt}
-use Rattle.cipher.specs.Fips46.{des_encrypt}
-use Rattle.cipher.specs.Fold.{under_each}
 use Rattle.answer.specs.Outcome.{choose, first_of}
 use Rattle.session.specs.Entries.{Entry, entries, nodes, place, has, key_at}
 use Rattle.session.specs.ServiceCode.{bearing}
-use Rattle.session.specs.Derivation.{other, key_length, Derived, turned_down, derived, by_rows, lacks, needing, key_of, keys_of, group_des, user_des, derived_des, group_aes, chain_start, derived_aes, target, derived_by, chosen, derived_for, derive_rows, derived_before16, with_room, derivation}
+use Rattle.session.specs.Derivation.{other, key_length, Derived, turned_down, by_rows, lacks, needing, key_of, keys_of, group_des, user_des, derived_des, group_aes, derived_aes, target, derived_by, chosen, derived_for, derive_rows, derived_before16, with_room, derivation}
 use Rattle.session.proofs.DerivationSteps.{rows_pass}
 
 -- two lists of entries in which each node and algorithm is there in both or in neither, and has the same key where it is there

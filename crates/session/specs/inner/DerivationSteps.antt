@@ -1,5 +1,5 @@
 -- From no document: what the steps of a derivation answer. Assumes nothing.
-use Rattle.std.specs.Prelude.{ℕ, ◌≤◌, ◌≡◌, List, [], ◌∷◌, ◌++◌, eqb, length, take}
+use Rattle.std.specs.Prelude.{ℕ, ◌≤◌, ◌≡◌, List, ◌∷◌, ◌++◌, eqb, length, take}
 use Rattle.cipher.specs.Fips46.{des_encrypt}
 use Rattle.cipher.specs.Fold.{under_each}
 use Rattle.answer.specs.Outcome.{choose}

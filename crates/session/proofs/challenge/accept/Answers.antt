@@ -1,0 +1,8 @@
+use Rattle.session.proofs.Challenges.{equal_accepted, unequal_refused}
+use Rattle.session.proofs.challenge.accept.Goals as goal
+
+pub returns-then-equal : goal.returns-then-equal
+returns-then-equal c = equal_accepted _ _ c.if-equal.true c.sized.ensures
+
+pub returns : goal.returns
+returns c = unequal_refused _ _ c.if-equal.false c.refused.ensures

@@ -1,0 +1,11 @@
+use Prim.Native.Nat.{◌/◌, ◌-◌}
+use Rattle.session.proofs.KeySearch.{Known}
+use lib.ListN.{length}
+use mathlib.Core.Path.{◌≡◌}
+use Rattle.session.proofs.keys.any_algorithm_unknown.Given as goal
+
+abbrev pub invariant-loop-i : goal.invariant-loop-i
+invariant-loop-i l = (l.n ≡ length l.keys / 19) × Known l.keys l.i
+
+abbrev pub decreases-loop-i : goal.decreases-loop-i
+decreases-loop-i l = l.n - l.i
