@@ -1,0 +1,12 @@
+-- `bench::hernotxak_bench_des_decrypt` meets its contract: what `cipher` ensures of the arrays, at what they were copied from. Assumes nothing.
+use Rattle.cipher.specs.Fips46.{des_decrypt}
+use Rattle.bench.proofs.Results.{two, written}
+use borrow.Author.Rules.{rules}
+use Rattle.bench.proofs.hernotxak_bench_des_decrypt.Goals as goal
+
+pub returns : goal.returns
+returns c =
+    let block = c.first8-input.ensures in
+    let key = c.first8-k.ensures in
+    let output = two des_decrypt key block c.decrypt_des_block-output.ensures in
+    written c.args.block.now output c.copy.ensures

@@ -1,0 +1,6 @@
+use Rattle.felica_secure.proofs.PackedParts.{meets_returns}
+use borrow.Author.Rules.{rules}
+use Rattle.felica_secure.proofs.challenge.felica_encrypt_challenge1b.Goals as goal
+
+pub returns : goal.returns
+returns c = meets_returns _ _ _ _ _ c.encrypt_challenge1b.ensures c.pack.ensures
