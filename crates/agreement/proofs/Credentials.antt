@@ -10,7 +10,7 @@ use lib.ListN.{length, take, drop, length-append, drop_of_length-le}
 use Rattle.cipher.specs.Bytes.{Bytes}
 use Rattle.cipher.proofs.ByteLists.{Block}
 use Rattle.answer.specs.declared.answer.Answer.{Answer}
-use Rattle.answer.specs.Outcome.{accepted, choose, over, Meets}
+use Rattle.answer.specs.Outcome.{choose, over, Meets}
 use Rattle.answer.proofs.Pieces.{copied_next}
 use Rattle.session.specs.Challenge.{making_2a, session_keys, deriving_session_keys}
 use Rattle.session.proofs.Exchanges as two

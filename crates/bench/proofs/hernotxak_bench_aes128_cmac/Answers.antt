@@ -2,7 +2,6 @@
 use Rattle.cipher.specs.Fips197.{aes_encrypt}
 use Rattle.cipher.specs.Sp80038b.{R128, cmac}
 use Rattle.bench.proofs.Results.{one, written}
-use borrow.Author.Rules.{rules}
 use Rattle.bench.proofs.hernotxak_bench_aes128_cmac.Goals as goal
 
 pub returns : goal.returns

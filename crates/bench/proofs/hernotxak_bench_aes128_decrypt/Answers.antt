@@ -1,7 +1,6 @@
 -- `bench::hernotxak_bench_aes128_decrypt` meets its contract: what `cipher` ensures of the arrays, at what they were copied from. Assumes nothing.
 use Rattle.cipher.specs.Fips197.{aes_decrypt}
 use Rattle.bench.proofs.Results.{two, written}
-use borrow.Author.Rules.{rules}
 use Rattle.bench.proofs.hernotxak_bench_aes128_decrypt.Goals as goal
 
 pub returns : goal.returns

@@ -2,7 +2,6 @@
 use Rattle.cipher.specs.Fips197.{aes_encrypt}
 use Rattle.cipher.specs.Sp80038a.{ofb}
 use Rattle.bench.proofs.Results.{two}
-use borrow.Author.Rules.{rules}
 use Rattle.bench.proofs.hernotxak_bench_aes128_ofb.Goals as goal
 
 pub returns : goal.returns

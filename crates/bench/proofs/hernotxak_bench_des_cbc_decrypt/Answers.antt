@@ -5,7 +5,6 @@ use Rattle.bench.specs.Parts.{flag}
 use Rattle.cipher.specs.Fips46.{des_decrypt}
 use Rattle.cipher.specs.Sp80038a.{cbc_decrypt, on_whole}
 use Rattle.bench.proofs.Results.{one}
-use borrow.Author.Rules.{rules}
 use Rattle.bench.proofs.hernotxak_bench_des_cbc_decrypt.Goals as goal
 
 pub returns : goal.returns

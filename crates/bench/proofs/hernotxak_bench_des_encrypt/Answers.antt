@@ -1,7 +1,6 @@
 -- `bench::hernotxak_bench_des_encrypt` meets its contract: what `cipher` ensures of the arrays, at what they were copied from. Assumes nothing.
 use Rattle.cipher.specs.Fips46.{des_encrypt}
 use Rattle.bench.proofs.Results.{two, written}
-use borrow.Author.Rules.{rules}
 use Rattle.bench.proofs.hernotxak_bench_des_encrypt.Goals as goal
 
 pub returns : goal.returns

@@ -2,7 +2,6 @@
 use Rattle.cipher.specs.Fips46.{des_decrypt}
 use Rattle.cipher.specs.Fold.{under_each_back}
 use Rattle.bench.proofs.Results.{one, written}
-use borrow.Author.Rules.{rules}
 use Rattle.bench.proofs.hernotxak_bench_des_under_each_back.Goals as goal
 
 pub returns : goal.returns

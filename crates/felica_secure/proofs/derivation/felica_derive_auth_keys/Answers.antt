@@ -1,5 +1,4 @@
 use Rattle.felica_secure.proofs.PackedParts.{derives_returns}
-use borrow.Author.Rules.{rules}
 use Rattle.felica_secure.proofs.derivation.felica_derive_auth_keys.Goals as goal
 
 pub returns : goal.returns

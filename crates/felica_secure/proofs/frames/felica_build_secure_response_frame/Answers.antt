@@ -1,5 +1,4 @@
 use Rattle.felica_secure.proofs.PackedParts.{meets_returns}
-use borrow.Author.Rules.{rules}
 use Rattle.felica_secure.proofs.frames.felica_build_secure_response_frame.Goals as goal
 
 pub returns : goal.returns

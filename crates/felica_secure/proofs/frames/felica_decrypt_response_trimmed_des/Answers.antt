@@ -1,5 +1,4 @@
 use Rattle.felica_secure.proofs.PackedParts.{meets_returns}
-use borrow.Author.Rules.{rules}
 use Rattle.felica_secure.proofs.frames.felica_decrypt_response_trimmed_des.Goals as goal
 
 pub returns : goal.returns

@@ -1,5 +1,4 @@
 use Rattle.felica_secure.proofs.PackedParts.{forecast_packed}
-use borrow.Author.Rules.{rules}
 use Rattle.felica_secure.proofs.frames.felica_forecast.Goals as goal
 
 pub returns : goal.returns

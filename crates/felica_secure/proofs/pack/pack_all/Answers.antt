@@ -1,6 +1,5 @@
 use native.Mathlib.Omega.{arith}
 use Rattle.felica_secure.specs.Packed.{packed}
-use borrow.Author.Rules.{rules}
 use Rattle.felica_secure.proofs.pack.pack_all.Goals as goal
 
 pub returns : goal.returns

@@ -1,11 +1,9 @@
-use borrow.Author.Tests.{not-true, not-false}
 use mathlib.Core.Path.{refl, sym, ◌∙◌}
 use Rattle.session.proofs.Encoding.{session_size}
 use Rattle.felica_secure.proofs.KeptStates.{no_keeps, keeps}
 use Rattle.felica_secure.specs.Calls.{answering}
 use Rattle.felica_secure.specs.SessionCalls.{kept_session, call_receive}
 use lib.ListN.{length}
-use borrow.Author.Rules.{rules}
 use Rattle.felica_secure.proofs.sessions.felica_session_apply_response.Goals as goal
 
 pub returns-then-not-is_session : goal.returns-then-not-is_session

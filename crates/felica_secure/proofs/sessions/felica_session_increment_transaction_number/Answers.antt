@@ -1,11 +1,9 @@
-use borrow.Author.Tests.{not-true, not-false}
 use mathlib.Core.Path.{refl, sym, ◌∙◌}
 use mathlib.Core.List.{[]}
 use Rattle.answer.specs.Outcome.{over}
 use Rattle.session.proofs.Encoding.{session_size}
 use Rattle.felica_secure.proofs.KeptStates.{no_keeps, keeps}
 use Rattle.felica_secure.specs.SessionCalls.{kept_session, call_step}
-use borrow.Author.Rules.{rules}
 use Rattle.felica_secure.proofs.sessions.felica_session_increment_transaction_number.Goals as goal
 
 pub returns-then-not-is_session : goal.returns-then-not-is_session

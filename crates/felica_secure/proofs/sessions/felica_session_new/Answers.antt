@@ -3,7 +3,6 @@ use native.Mathlib.Omega.{arith}
 use Rattle.session.proofs.SessionSteps.{make_numbers}
 use Rattle.felica_secure.specs.SessionCalls.{kept_session}
 use Rattle.felica_secure.proofs.KeptStates.{making_other_size, making_refused, making_made}
-use borrow.Author.Rules.{rules}
 use Rattle.felica_secure.proofs.sessions.felica_session_new.Goals as goal
 
 pub returns-then-session-ne178 : goal.returns-then-session-ne178

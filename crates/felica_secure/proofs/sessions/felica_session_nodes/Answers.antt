@@ -1,4 +1,3 @@
-use borrow.Author.Tests.{not-true, not-false}
 use mathlib.Core.Path.{refl, sym, ◌∙◌}
 use Rattle.session.proofs.Encoding.{session_size}
 use Rattle.felica_secure.proofs.KeptStates.{no_tells, tells}
@@ -8,7 +7,6 @@ use native.Mathlib.Omega.{arith}
 use lib.ListN.{length}
 use native.Mathlib.Nat.{sub-zero}
 use Rattle.answer.proofs.Rows.{delivers_meets}
-use borrow.Author.Rules.{rules}
 use Rattle.felica_secure.proofs.sessions.felica_session_nodes.Goals as goal
 
 pub returns-then-not-is_session : goal.returns-then-not-is_session

@@ -1,4 +1,3 @@
-use borrow.Author.Tests.{not-true, not-false}
 use mathlib.Core.Path.{refl, sym, ◌∙◌}
 use mathlib.Core.List.{[]}
 use Rattle.answer.specs.Outcome.{over}
@@ -7,7 +6,6 @@ use Rattle.felica_secure.proofs.KeptStates.{no_keeps, keeps}
 use Rattle.felica_secure.specs.Calls.{telling}
 use Rattle.felica_secure.specs.SessionCalls.{kept_session, call_set}
 use Rattle.felica_secure.specs.Packed.{packed}
-use borrow.Author.Rules.{rules}
 use Rattle.felica_secure.proofs.sessions.felica_session_set_transaction_number.Goals as goal
 
 pub returns-then-not-is_session : goal.returns-then-not-is_session

@@ -1,4 +1,3 @@
-use borrow.Author.Tests.{not-true, not-false}
 use mathlib.Core.Path.{refl, sym, ◌∙◌}
 use Rattle.session.proofs.Encoding.{session_size}
 use Rattle.felica_secure.proofs.KeptStates.{no_tells, tells}
@@ -7,7 +6,6 @@ use Rattle.felica_secure.specs.SessionCalls.{kept_session, call_id}
 use native.Mathlib.Omega.{arith}
 use lib.ListN.{length}
 use Rattle.answer.proofs.Rows.{delivers_meets}
-use borrow.Author.Rules.{rules}
 use Rattle.felica_secure.proofs.sessions.felica_session_transaction_id.Goals as goal
 
 pub returns-then-not-is_session : goal.returns-then-not-is_session

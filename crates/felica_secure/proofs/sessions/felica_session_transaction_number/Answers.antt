@@ -1,4 +1,3 @@
-use borrow.Author.Tests.{not-true, not-false}
 use mathlib.Core.Path.{refl, sym, ◌∙◌}
 use mathlib.Core.List.{[]}
 use Rattle.answer.specs.Outcome.{over}
@@ -6,7 +5,6 @@ use Rattle.session.proofs.Encoding.{session_size}
 use Rattle.felica_secure.proofs.KeptStates.{no_tells, tells}
 use Rattle.felica_secure.specs.Calls.{telling}
 use Rattle.felica_secure.specs.SessionCalls.{kept_session, call_number}
-use borrow.Author.Rules.{rules}
 use Rattle.felica_secure.proofs.sessions.felica_session_transaction_number.Goals as goal
 
 pub returns-then-not-is_session : goal.returns-then-not-is_session

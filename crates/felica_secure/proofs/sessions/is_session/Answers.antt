@@ -1,6 +1,5 @@
 use Rattle.session.proofs.Encoding.{other_size, other_version, other_mark, by_count}
 use Rattle.session.proofs.SessionSteps.{mark_low, mark_high, mark_one_two}
-use borrow.Author.Rules.{rules}
 use Rattle.felica_secure.proofs.sessions.is_session.Goals as goal
 
 pub returns-then-bytes-ne178 : goal.returns-then-bytes-ne178

@@ -2,7 +2,6 @@ use mathlib.Core.Path.{sym, ap, ◌∙◌}
 use lib.ListN.{replicate}
 use Rattle.cipher.proofs.Copies.{copied}
 use Rattle.session.specs.Record.{decode}
-use borrow.Author.Rules.{rules}
 use Rattle.felica_secure.proofs.sessions.load.Goals as goal
 
 pub returns : goal.returns

@@ -2,7 +2,6 @@ use mathlib.Core.Path.{ap, ◌∙◌}
 use native.Mathlib.Omega.{arith}
 use Rattle.cipher.proofs.Copies.{copied}
 use Rattle.session.specs.Record.{decode}
-use borrow.Author.Rules.{rules}
 use Rattle.felica_secure.proofs.sessions.store.Goals as goal
 
 pub returns : goal.returns
