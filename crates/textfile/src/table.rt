@@ -1,7 +1,7 @@
 // The table that a program prints: a row for each file, with how many cases ran, how many agreed, the
 // first bytes of the file's CMAC under the zero key, so that no byte of a file changes unseen, and what
 // the file's first line says. What is wrong has a line of its own.
-ghost use Rattle.io.specs.Counts.{IsPrefixLen};
+ghost use Rattle.std.specs.Prelude.{◌≡◌, ◌≤◌, length, take};
 
 use crate::text;
 use std::fs;
@@ -41,7 +41,8 @@ pub fn sum(a: Tally, b: Tally) -> Tally {
 
 // Reads a file, and answers how many bytes it has: 0 where it cannot be read or fills the buffer.
 pub fn load(rt: &(impl Files + Print), file: &[u8], buffer: &mut [u8]) -> usize
-    ensures { IsPrefixLen result buffer.new }
+    ensures in_bounds { result ≤ length buffer.new }
+    ensures has_that_many { result ≡ length (take result buffer.new) }
 {
     let Some(mut opened) = open(rt, file) else {
         put(rt, file);
@@ -68,7 +69,8 @@ fn open<R: Files>(rt: &R, file: &[u8]) -> Option<R::File> {
 // Reads until the buffer is full, the file ends or a read fails, and answers how many bytes it put at the
 // buffer's start.
 fn read_full(file: &mut impl Read, buffer: &mut [u8]) -> usize
-    ensures { IsPrefixLen result buffer.new }
+    ensures in_bounds { result ≤ length buffer.new }
+    ensures has_that_many { result ≡ length (take result buffer.new) }
 {
     let mut done = 0;
     while done < buffer.len() {
@@ -154,5 +156,8 @@ fn print_count(rt: &impl Print, n: u64) {
 
 // The first four bytes of a MAC, and two blanks.
 fn print_mac(rt: &impl Print, mac: [u8; 16]) {
-    let _ = print!(rt; "{:02x}{:02x}{:02x}{:02x}  ", mac[0], mac[1], mac[2], mac[3]);
+    let _ = print!(rt;
+        "{:02x}{:02x}{:02x}{:02x}  ",
+        mac[0], mac[1], mac[2], mac[3]
+    );
 }
