@@ -195,7 +195,14 @@ fn leaves(answer: u8, number: u16, count: u16) -> Wanted {
 }
 
 // A response of eight bytes, received with an output of `room` bytes: what is written is the payload or nothing.
-fn receive(rt: &impl Print, run: Run, scheme: u8, reply: Response, room: usize, right: Wanted) -> Run {
+fn receive(
+    rt: &impl Print,
+    run: Run,
+    scheme: u8,
+    reply: Response,
+    room: usize,
+    right: Wanted,
+) -> Run {
     let context = run.context;
     let mut data = [0u8; 64];
     let n = sealed(scheme, reply, &mut data);
