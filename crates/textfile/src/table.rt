@@ -82,7 +82,7 @@ fn read_full(file: &mut impl Read, buffer: &mut [u8]) -> usize
     done
 }
 
-// Writes the bytes to the standard output. That a write failed is not told.
+// Writes the bytes to the standard output. What cannot be written is not reported.
 fn put(rt: &impl Print, bytes: &[u8]) {
     let _ = rt.write_all(bytes);
 }
