@@ -139,7 +139,7 @@ fn in_room(room: usize, kind: Kind, line: &[u8], wanted: Given, bytes: &[u8]) ->
 }
 
 fn same(a: &[u8; 4640], b: &[u8; 4640]) -> bool {
-    check::same(a, b)
+    a == b
 }
 
 fn call(kind: Kind, line: &[u8], out: &mut [u8]) -> Given {

@@ -26,22 +26,22 @@ pub(crate) fn run(kind: Kind, line: &[u8]) -> Verdict {
 // Whether a line's first word names the operation.
 fn is_named(kind: Kind, word: &[u8]) -> bool {
     match kind {
-        Kind::Seal | Kind::SealAlone => check::same(word, b"seal"),
-        Kind::Frame | Kind::FrameAlone => check::same(word, b"frame"),
-        Kind::Open | Kind::OpenAlone => check::same(word, b"open"),
-        Kind::Auth2Seal => check::same(word, b"auth2seal"),
-        Kind::Auth2OpenDes => check::same(word, b"auth2open_des"),
-        Kind::Auth2OpenAes => check::same(word, b"auth2open_aes"),
-        Kind::Package => check::same(word, b"package"),
-        Kind::Derive => check::same(word, b"derive"),
-        Kind::KeyFree => check::same(word, b"keyfree"),
-        Kind::Make => check::same(word, b"make"),
-        Kind::Read => check::same(word, b"read"),
-        Kind::Check => check::same(word, b"check"),
-        Kind::SessionKeys => check::same(word, b"session_keys"),
-        Kind::Step => check::same(word, b"step"),
-        Kind::Index => check::same(word, b"index"),
-        Kind::Apply => check::same(word, b"apply"),
+        Kind::Seal | Kind::SealAlone => textfile::same(word, b"seal"),
+        Kind::Frame | Kind::FrameAlone => textfile::same(word, b"frame"),
+        Kind::Open | Kind::OpenAlone => textfile::same(word, b"open"),
+        Kind::Auth2Seal => textfile::same(word, b"auth2seal"),
+        Kind::Auth2OpenDes => textfile::same(word, b"auth2open_des"),
+        Kind::Auth2OpenAes => textfile::same(word, b"auth2open_aes"),
+        Kind::Package => textfile::same(word, b"package"),
+        Kind::Derive => textfile::same(word, b"derive"),
+        Kind::KeyFree => textfile::same(word, b"keyfree"),
+        Kind::Make => textfile::same(word, b"make"),
+        Kind::Read => textfile::same(word, b"read"),
+        Kind::Check => textfile::same(word, b"check"),
+        Kind::SessionKeys => textfile::same(word, b"session_keys"),
+        Kind::Step => textfile::same(word, b"step"),
+        Kind::Index => textfile::same(word, b"index"),
+        Kind::Apply => textfile::same(word, b"apply"),
     }
 }
 
@@ -95,7 +95,7 @@ fn is_whole(line: &[u8], last: usize) -> bool {
     if n - 1 != last {
         return false;
     }
-    check::same(textfile::field(line, n), b"departs")
+    textfile::same(textfile::field(line, n), b"departs")
 }
 
 fn put(kind: Kind, line: &[u8], at: [usize; 5]) -> Verdict {

@@ -14,16 +14,16 @@ enum Which {
 
 fn asked(line: &[u8]) -> Which {
     let word = textfile::field(line, 1);
-    if check::same(word, b"1a") {
+    if textfile::same(word, b"1a") {
         return Which::OneA;
     }
-    if check::same(word, b"1b") {
+    if textfile::same(word, b"1b") {
         return Which::OneB;
     }
-    if check::same(word, b"2a") {
+    if textfile::same(word, b"2a") {
         return Which::TwoA;
     }
-    if check::same(word, b"2b") {
+    if textfile::same(word, b"2b") {
         return Which::TwoB;
     }
     Which::Unknown

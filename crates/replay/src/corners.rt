@@ -13,9 +13,9 @@ struct Run {
     context: AuthenticatedContext,
 }
 
-fn noted(run: Run, context: AuthenticatedContext, is_right: bool) -> Run {
+fn noted(rt: &impl Print, run: Run, context: AuthenticatedContext, is_right: bool) -> Run {
     let so_far = run.tally;
-    let tally = note::holds(so_far, b"the session's corners", is_right);
+    let tally = note::holds(rt, so_far, b"the session's corners", is_right);
     Run { tally, context }
 }
 
@@ -29,7 +29,7 @@ fn credentials_size(scheme: u8) -> usize
 }
 
 // A new session, with no nodes: one check.
-fn begin(so_far: Tally, scheme: u8, number: u16) -> Run {
+fn begin(rt: &impl Print, so_far: Tally, scheme: u8, number: u16) -> Run {
     let none = [0u8; 0];
     let credentials = [0x5Au8; 36];
     let n = credentials_size(scheme);
@@ -40,25 +40,25 @@ fn begin(so_far: Tally, scheme: u8, number: u16) -> Run {
         tally: so_far,
         context,
     };
-    noted(run, context, made.number == 0)
+    noted(rt, run, context, made.number == 0)
 }
 
 // ---- 65,537 responses of 9 bytes, each turned away with 11
 
-pub(crate) fn many(so_far: Tally) -> Tally {
-    let mut run = begin(so_far, 2, 5);
+pub(crate) fn many(rt: &impl Print, so_far: Tally) -> Tally {
+    let mut run = begin(rt, so_far, 2, 5);
     let mut i: usize = 0;
     while i < 65537 {
-        let next = too_short(run, count_after(i));
+        let next = too_short(rt, run, count_after(i));
         run = next;
         i += 1;
     }
-    at_end(run)
+    at_end(rt, run)
 }
 
-fn at_end(run: Run) -> Tally {
+fn at_end(rt: &impl Print, run: Run) -> Tally {
     let context = run.context;
-    let last = noted(run, context, is_left(context, 5, 65535));
+    let last = noted(rt, run, context, is_left(context, 5, 65535));
     last.tally
 }
 
@@ -70,13 +70,13 @@ fn count_after(i: usize) -> u16 {
     (i + 1) as u16
 }
 
-fn too_short(run: Run, count: u16) -> Run {
+fn too_short(rt: &impl Print, run: Run, count: u16) -> Run {
     let context = run.context;
     let mut out = [0xA5u8; 8];
     let received = context.apply_response(0x43, b"\x06\x00\x00\x00\x00\x00\x00\x00\x00", &mut out);
     let right = is_received(received, 11, 5, count);
     let after = received.context;
-    noted(run, after, is_both(right, is_untouched(&out)))
+    noted(rt, run, after, is_both(right, is_untouched(&out)))
 }
 
 fn is_both(a: bool, b: bool) -> bool {
@@ -87,7 +87,7 @@ fn is_both(a: bool, b: bool) -> bool {
 }
 
 fn is_untouched(out: &[u8; 8]) -> bool {
-    check::same(out, b"\xA5\xA5\xA5\xA5\xA5\xA5\xA5\xA5")
+    out == b"\xA5\xA5\xA5\xA5\xA5\xA5\xA5\xA5"
 }
 
 fn is_left(context: AuthenticatedContext, number: u16, count: u16) -> bool {
@@ -115,24 +115,24 @@ fn is_received(received: Received, answer: u8, number: u16, count: u16) -> bool 
 
 // ---- The number step
 
-pub(crate) fn stepping(so_far: Tally) -> Tally {
-    let a = begin(so_far, 1, 65534);
-    let b = step(a, 0, 65535);
-    let c = step(b, 9, 65535);
-    let d = step(c, 9, 65535);
-    let e = step(set(d, 3), 0, 4);
-    let f = step(set(e, 0), 0, 1);
-    let g = step(set(f, 65535), 9, 65535);
+pub(crate) fn stepping(rt: &impl Print, so_far: Tally) -> Tally {
+    let a = begin(rt, so_far, 1, 65534);
+    let b = step(rt, a, 0, 65535);
+    let c = step(rt, b, 9, 65535);
+    let d = step(rt, c, 9, 65535);
+    let e = step(rt, set(d, 3), 0, 4);
+    let f = step(rt, set(e, 0), 0, 1);
+    let g = step(rt, set(f, 65535), 9, 65535);
     g.tally
 }
 
-fn step(run: Run, answer: u8, number: u16) -> Run {
+fn step(rt: &impl Print, run: Run, answer: u8, number: u16) -> Run {
     let context = run.context;
     let stepped = session::advance(context);
     let after = stepped.context;
     let value = if answer == 0 { number } else { 0 };
     let right = is_step(stepped.answer, answer, value);
-    noted(run, after, is_both(right, is_left(after, number, 0)))
+    noted(rt, run, after, is_both(right, is_left(after, number, 0)))
 }
 
 fn is_step(given: Answer, answer: u8, value: u16) -> bool {
@@ -164,21 +164,21 @@ struct Wanted {
 }
 
 // Another ID is 14 in DES and 13 in AES, and comes before 15; 15 comes before 16; 16 is not counted.
-pub(crate) fn responses(so_far: Tally, scheme: u8) -> Tally {
-    let a = begin(so_far, scheme, 5);
-    let b = receive(a, scheme, sent(0x16, 6), 7, leaves(16, 5, 0));
-    let c = receive(b, scheme, sent(0x16, 5), 0, leaves(15, 5, 1));
-    let d = receive(c, scheme, sent(0x16, 5), 8, leaves(15, 5, 2));
-    let e = receive(d, scheme, sent(0x16, 4), 7, leaves(15, 5, 3));
+pub(crate) fn responses(rt: &impl Print, so_far: Tally, scheme: u8) -> Tally {
+    let a = begin(rt, so_far, scheme, 5);
+    let b = receive(rt, a, scheme, sent(0x16, 6), 7, leaves(16, 5, 0));
+    let c = receive(rt, b, scheme, sent(0x16, 5), 0, leaves(15, 5, 1));
+    let d = receive(rt, c, scheme, sent(0x16, 5), 8, leaves(15, 5, 2));
+    let e = receive(rt, d, scheme, sent(0x16, 4), 7, leaves(15, 5, 3));
     let other = if scheme == 1 { 14 } else { 13 };
-    let f = receive(e, scheme, sent(0x17, 4), 0, leaves(other, 5, 4));
-    let g = receive(f, scheme, sent(0x17, 6), 8, leaves(other, 5, 5));
-    let h = receive(g, scheme, sent(0x16, 6), 8, leaves(0, 6, 5));
-    let i = receive(h, scheme, sent(0x16, 6), 8, leaves(15, 6, 6));
+    let f = receive(rt, e, scheme, sent(0x17, 4), 0, leaves(other, 5, 4));
+    let g = receive(rt, f, scheme, sent(0x17, 6), 8, leaves(other, 5, 5));
+    let h = receive(rt, g, scheme, sent(0x16, 6), 8, leaves(0, 6, 5));
+    let i = receive(rt, h, scheme, sent(0x16, 6), 8, leaves(15, 6, 6));
     let j = set(i, 65535);
-    let k = receive(j, scheme, sent(0x16, 65535), 8, leaves(15, 65535, 7));
+    let k = receive(rt, j, scheme, sent(0x16, 65535), 8, leaves(15, 65535, 7));
     let l = set(k, 3);
-    let m = receive(l, scheme, sent(0x16, 65535), 8, leaves(0, 65535, 7));
+    let m = receive(rt, l, scheme, sent(0x16, 65535), 8, leaves(0, 65535, 7));
     m.tally
 }
 
@@ -195,7 +195,14 @@ fn leaves(answer: u8, number: u16, count: u16) -> Wanted {
 }
 
 // A response of eight bytes, received with an output of `room` bytes: what is written is the payload or nothing.
-fn receive(run: Run, scheme: u8, reply: Response, room: usize, right: Wanted) -> Run {
+fn receive(
+    rt: &impl Print,
+    run: Run,
+    scheme: u8,
+    reply: Response,
+    room: usize,
+    right: Wanted,
+) -> Run {
     let context = run.context;
     let mut data = [0u8; 64];
     let n = sealed(scheme, reply, &mut data);
@@ -209,7 +216,7 @@ fn receive(run: Run, scheme: u8, reply: Response, room: usize, right: Wanted) ->
     } else {
         is_untouched(&out)
     };
-    noted(run, after, is_both(is_answer, is_out))
+    noted(rt, run, after, is_both(is_answer, is_out))
 }
 
 fn within(room: usize) -> usize
@@ -222,7 +229,7 @@ fn within(room: usize) -> usize
 }
 
 fn is_payload(out: &[u8; 8]) -> bool {
-    check::same(out, b"payload8")
+    out == b"payload8"
 }
 
 fn sealed(scheme: u8, reply: Response, out: &mut [u8]) -> usize

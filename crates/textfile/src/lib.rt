@@ -7,4 +7,4 @@ mod text;
 pub use table::{
     Tally, Verdict, counted, load, none, print_departed, print_head, print_row, print_sum, sum,
 };
-pub use text::{after_line, blanks, decode, field, is_none, line, number};
+pub use text::{after_line, blanks, decode, field, is_none, line, number, same};

@@ -1,5 +1,5 @@
 // The text of a data file: its lines, the fields of a line, and hex.
-ghost use Rattle.std.specs.Prelude.{◌*◌, ◌<◌, ◌≤◌, length};
+ghost use Rattle.std.specs.Prelude.{◌≡◌, ◌*◌, ◌<◌, ◌≤◌, ◌↔◌, IsTrue, length};
 
 // What `decode` and `number` answer for a field that is none, or too long: more than any field has.
 const BAD: usize = 18446744073709551615;
@@ -85,6 +85,13 @@ pub fn is_none(text: &[u8]) -> bool {
         return false;
     }
     text[0] == b'-'
+}
+
+// Whether all bytes are equal.
+pub fn same(a: &[u8], b: &[u8]) -> bool
+    ensures { IsTrue result ↔ (a.now ≡ b.now) }
+{
+    a == b
 }
 
 // Puts the bytes of a line's field k at the start of out, and answers how many they are, or BAD.

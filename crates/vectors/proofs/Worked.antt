@@ -1,6 +1,6 @@
 -- Worked examples of the papers, as theorems about the definitions: antt computes each. The rest of the published vectors is run by a program
 -- (src/main.rt). Assumes nothing.
-use Rattle.std.proofs.Common.{◌≡◌, ℕ, List, [], ◌∷◌, ◌++◌, length, take, drop, replicate, refl}
+use Rattle.std.proofs.Common.{◌≡◌, ℕ, List, [], ◌∷◌, refl}
 use Rattle.cipher.specs.Bytes.{tab, ◌⊕◌}
 use Rattle.cipher.specs.Fips197.{aes_encrypt, aes_decrypt, cipher, inv_cipher, rounds, inv_rounds, key_expansion, key_words, next_word, key_temp, word, rot_word, rcon, power, round_key, add_round_key, mix_columns, inv_mix_columns, mixed, shift_rows, inv_shift_rows, cell, sub_bytes, inv_sub_bytes, s_box, inv_s_box, affine, inv_affine, inverse, times_squares, bit, from_bits, ◌•◌, add_times, xtime, if_bit}
 use Rattle.cipher.specs.Sp80038a.{chain, blocks, ofb, ofb_out, ofb_next}

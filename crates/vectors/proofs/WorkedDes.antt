@@ -1,5 +1,5 @@
 -- Worked examples for DES, as theorems about the definitions: antt computes each. Assumes nothing.
-use Rattle.std.proofs.Common.{◌≡◌, ℕ, List, [], ◌∷◌, ◌++◌, length, take, drop, replicate, refl}
+use Rattle.std.proofs.Common.{◌≡◌, ℕ, List, [], ◌∷◌, refl}
 use Rattle.cipher.specs.Bytes.{◌⊕◌}
 use Rattle.cipher.specs.Bits.{bool, digit, bits, num, num_from, differs, ◌⊞◌, to_bits, to_bytes}
 use Rattle.cipher.specs.Fips46.{des_encrypt, des_decrypt, tdea_encrypt, encipher, decipher, crypt, iterations, round, f, KS, keys_from, left_shift, shifts, PC1, PC2, P, E, IP, IP⁻¹, S1, S2, S3, S4, S5, S6, S7, S8, select, substitute, substitute_all}

@@ -48,7 +48,7 @@ fn judged(agrees: bool) -> Verdict {
 
 // Whether all bytes are equal. The library's own comparison has to say so too.
 fn same(a: &[u8], b: &[u8]) -> bool {
-    if !check::same(a, b) {
+    if a != b {
         return false;
     }
     cipher::ct_eq(a, b)
