@@ -16,7 +16,8 @@ fn is_session(bytes: &[u8]) -> bool
     if bytes.len() != 178 {
         return false;
     }
-    if bytes[0] != 1 {
+    let other = bytes[0] != 1;
+    if other {
         return false;
     }
     if bytes[1] < 1 {

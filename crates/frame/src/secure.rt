@@ -99,7 +99,8 @@ pub fn forecast(scheme: u8, payload_len: usize) -> Answer
         return answer::sized(des::size_des(payload_len) as u16);
     }
     if scheme == AES128 {
-        if 243 < payload_len {
+        let too_long = 243 < payload_len;
+        if too_long {
             return answer::refused(12);
         }
         return answer::sized((payload_len + 10) as u16);

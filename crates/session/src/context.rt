@@ -129,7 +129,8 @@ fn count_turned_away(context: AuthenticatedContext, number: u8) -> Authenticated
     if number < 10 {
         return context;
     }
-    if 15 < number {
+    let above = 15 < number;
+    if above {
         return context;
     }
     let count = context.turned_away;
@@ -361,7 +362,8 @@ impl AuthenticatedContext {
         ensures { Steps self result.answer result.context }
     {
         let number = self.transaction_number;
-        if number == 65535 {
+        let full = number == 65535;
+        if full {
             return Stepped {
                 answer: answer::refused(9),
                 context: self,

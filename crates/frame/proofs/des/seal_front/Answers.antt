@@ -10,12 +10,6 @@ use Rattle.frame.proofs.DesSeals.{length_padded, sealed_front}
 use borrow.Author.Rules.{rules}
 use Rattle.frame.proofs.des.seal_front.Goals as goal
 
-pub slice_bounds-calculate_command_mac_des-end-2 : goal.slice_bounds-calculate_command_mac_des-end-2
-slice_bounds-calculate_command_mac_des-end-2 c = sym (length-take-le _ _ ((search rules)))
-
-pub slice_bounds-encrypt_des_cbc_zero_iv-end-2 : goal.slice_bounds-encrypt_des_cbc_zero_iv-end-2
-slice_bounds-encrypt_des_cbc_zero_iv-end-2 c = sym (length-take-le _ _ ((search rules)))
-
 pub returns : goal.returns
 returns c =
     let o = c.args.out.now in

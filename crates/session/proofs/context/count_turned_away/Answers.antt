@@ -6,12 +6,12 @@ use Rattle.session.proofs.context.count_turned_away.Goals as goal
 pub returns-then-number-lt10 : goal.returns-then-number-lt10
 returns-then-number-lt10 c = counting_low _ _ c.if-number-lt10.true
 
-pub returns-then-number-gt15 : goal.returns-then-number-gt15
-returns-then-number-gt15 c = counting_high c.args.number _ (omega (arith, c.if-number-gt15.true))
+pub returns-then-above : goal.returns-then-above
+returns-then-above c = counting_high c.args.number _ (omega (arith, c.if-above.true))
 
 pub returns-then-count : goal.returns-then-count
-returns-then-count c = counting_full c.args.number _ c.if-number-lt10.false (omega (arith, c.if-number-gt15.false)) c.if-count.true
+returns-then-count c = counting_full c.args.number _ c.if-number-lt10.false (omega (arith, c.if-above.false)) c.if-count.true
 
 pub returns : goal.returns
 unfolding with_count
-returns c = counting_more c.args.number _ c.if-number-lt10.false (omega (arith, c.if-number-gt15.false)) (omega (arith, c.well_formed))
+returns c = counting_more c.args.number _ c.if-number-lt10.false (omega (arith, c.if-above.false)) (omega (arith, c.well_formed))
