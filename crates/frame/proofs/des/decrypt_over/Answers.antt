@@ -1,15 +1,9 @@
-use mathlib.Core.Path.{sym}
 use lib.ListN.{replicate}
-use lib.Seq.{length-take-le}
 use Rattle.cipher.specs.Fips46.{des_decrypt}
 use Rattle.cipher.specs.Sp80038a.{cbc_decrypt}
 use Rattle.frame.specs.DesFrame.{des_plain}
 use Rattle.frame.proofs.Fronts.{copied_in_place}
-use borrow.Author.Rules.{rules}
 use Rattle.frame.proofs.des.decrypt_over.Goals as goal
-
-pub slice_bounds-decrypt_des_cbc_zero_iv-end-2 : goal.slice_bounds-decrypt_des_cbc_zero_iv-end-2
-slice_bounds-decrypt_des_cbc_zero_iv-end-2 c = sym (length-take-le _ _ ((search rules)))
 
 pub returns : goal.returns
 unfolding des_plain

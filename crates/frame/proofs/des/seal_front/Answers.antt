@@ -1,8 +1,7 @@
-use mathlib.Core.Path.{◌≡◌, sym}
+use mathlib.Core.Path.{◌≡◌}
 use Prim.Native.Nat.{◌+◌, ◌-◌, ◌≤◌}
 use native.Mathlib.Omega.{arith}
 use lib.ListN.{length, take, drop}
-use lib.Seq.{length-take-le}
 use Rattle.cipher.proofs.Copies.{length_part}
 use Rattle.frame.specs.Padding.{pad}
 use Rattle.answer.proofs.Outputs.{copied_behind}

@@ -1,8 +1,7 @@
-use mathlib.Core.Path.{sym, ap}
+use mathlib.Core.Path.{ap}
 use Prim.Native.Nat.{ℕ, ◌-◌, ◌≤◌}
 use native.Mathlib.Omega.{arith}
 use lib.ListN.{length, take, get_or}
-use lib.Seq.{length-take-le}
 use Rattle.frame.specs.Trimmed.{trim_count, trim}
 use Rattle.frame.proofs.Trims.{trim_short}
 use Rattle.frame.proofs.des.trim_payload.Goals as goal
@@ -15,12 +14,6 @@ returns-then-n-count c =
     let p = c.args.payload.now in
     let h : length p ≤ trim_count (get_or p (length p - 1) 0) = omega (arith, c.trim_count-count.ensures) in
     trim_short p h
-
-pub slice_bounds-result-end-2 : goal.slice_bounds-result-end-2
-slice_bounds-result-end-2 c =
-    let p = c.args.payload.now in
-    let h : length p - c.trim_count-count.result ≤ length p = omega arith in
-    sym (length-take-le (length p - c.trim_count-count.result) p h)
 
 pub returns : goal.returns
 unfolding trim

@@ -1,13 +1,9 @@
-use mathlib.Core.Path.{◌≡◌, sym}
+use mathlib.Core.Path.{◌≡◌}
 use lib.ListN.{length}
 use native.Mathlib.Omega.{arith}
-use lib.Seq.{length-take-le}
 use Rattle.frame.proofs.RegistrationPackage.{cipher_written, last_block}
 use borrow.Author.Rules.{rules}
 use Rattle.frame.proofs.package.package_mac.Goals as goal
-
-pub slice_bounds-encrypt_des_cbc_zero_iv-end-2 : goal.slice_bounds-encrypt_des_cbc_zero_iv-end-2
-slice_bounds-encrypt_des_cbc_zero_iv-end-2 c = sym (length-take-le _ _ ((search rules)))
 
 pub returns : goal.returns
 returns c =

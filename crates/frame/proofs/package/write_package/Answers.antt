@@ -1,16 +1,11 @@
-use mathlib.Core.Path.{◌≡◌, refl, sym}
+use mathlib.Core.Path.{◌≡◌, refl}
 use Prim.Native.Nat.{◌+◌, ◌-◌, ◌≤◌}
 use native.Mathlib.Omega.{arith}
 use lib.ListN.{length, take, drop}
-use lib.Seq.{length-take-le}
 use Rattle.cipher.proofs.Copies.{length_part}
 use Rattle.answer.proofs.Outputs.{copied_behind}
 use Rattle.frame.proofs.RegistrationPackage.{plain_again, package_written}
-use borrow.Author.Rules.{rules}
 use Rattle.frame.proofs.package.write_package.Goals as goal
-
-pub slice_bounds-encrypt_des_cbc_zero_iv-end-2 : goal.slice_bounds-encrypt_des_cbc_zero_iv-end-2
-slice_bounds-encrypt_des_cbc_zero_iv-end-2 c = sym (length-take-le _ _ ((search rules)))
 
 pub returns : goal.returns
 returns c =

@@ -1,25 +1,18 @@
-use mathlib.Core.Path.{◌≡◌, sym}
+use mathlib.Core.Path.{◌≡◌}
 use native.Mathlib.Omega.{arith}
 use Prim.Native.Nat.{◌+◌, ◌-◌, ◌≤◌}
 use lib.ListN.{length, take, drop, replicate, length-drop, length-take}
 use Prim.Native.Nat.{ℕ}
-use lib.Seq.{length-take-le, length_front}
+use lib.Seq.{length_front}
 use Rattle.frame.proofs.AesOpens.{aes_opened}
 use Rattle.frame.proofs.DesOpens.{rest_part}
 use borrow.Author.Rules.{rules}
 use Rattle.frame.proofs.v2_aes.decrypt_in_work_block.Goals as goal
 
-pub slice_bounds-apply_aes128_ofb_parts-end : goal.slice_bounds-apply_aes128_ofb_parts-end
-slice_bounds-apply_aes128_ofb_parts-end c = sym (length-take-le _ _ ((search rules)))
-
 pub slice_bounds-work-end-2 : goal.slice_bounds-work-end-2
 slice_bounds-work-end-2 c =
     let w = c.copy.new.dst in
     rw (length_front w c.apply_aes128_ofb_parts.new.first _ c.apply_aes128_ofb_parts.auto.first) ((search rules))
-
-pub slice_bounds-payload-end : goal.slice_bounds-payload-end
-slice_bounds-payload-end c = sym (length-take-le _ _ ((let w = c.copy.new.dst in
-    rw (length_front w c.apply_aes128_ofb_parts.new.first _ c.apply_aes128_ofb_parts.auto.first) ((search rules)))))
 
 pub accept_aes-requires : goal.accept_aes-requires
 accept_aes-requires c =

@@ -1,10 +1,7 @@
-use mathlib.Core.Path.{sym}
 use mathlib.Core.List.{[]}
-use lib.Seq.{length-take-le}
 use Rattle.session.specs.Derivation.{chain_start}
 use Rattle.session.proofs.Gathering.{holds_start}
 use Rattle.session.proofs.DerivationSteps.{aes_refused, aes_none, aes_passed}
-use borrow.Author.Rules.{rules}
 use Rattle.session.proofs.keys.derive_aes128.Goals as goal
 
 pub returns-then-refusal-ne0 : goal.returns-then-refusal-ne0
@@ -18,9 +15,6 @@ returns-then-end-eq0 c =
     let n = c.nothing_gathered.ensures in
     let s = c.gather-all.ensures.1 _ (c.gather-first.ensures.1 [] (holds_start _ _ _ _ n.0 n.1 n.2)) in
     aes_none _ _ _ _ _ _ s _ _ c.if-refusal-ne0.false _ c.if-end-eq0.true c.refused-then-end-eq0.ensures
-
-pub slice_bounds-encrypt_aes128_under_each-end : goal.slice_bounds-encrypt_aes128_under_each-end
-slice_bounds-encrypt_aes128_under_each-end c = sym (length-take-le _ _ ((search rules)))
 
 pub returns : goal.returns
 unfolding chain_start
