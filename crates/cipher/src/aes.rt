@@ -253,8 +253,8 @@ fn unsubstituted(si: &[u8], a: u32, b: u32, c: u32, d: u32) -> u32
 
 // One column of a round of the inverse cipher, with its word of the round key.
 fn inv_column(u: &[u32], si: &[u8], a: u32, b: u32, c: u32, d: u32, k: u32) -> u32
-    requires utable { UTable u.now }
-    requires inv_stable { InvSTable si.now }
+    requires u_table { UTable u.now }
+    requires inv_s_table { InvSTable si.now }
     ensures { word_bytes result ≡ mixed_column 0x0e 0x0b 0x0d 0x09 (map inv_s_box (diagonal a b c d) ⊕ word_bytes k) }
 {
     let e = unsubstituted(si, a, b, c, d) ^ k;
@@ -263,8 +263,8 @@ fn inv_column(u: &[u32], si: &[u8], a: u32, b: u32, c: u32, d: u32, k: u32) -> u
 
 // The state after the nine rounds with InvMixColumns, which take the round keys from 9 down to 1.
 fn inv_rounds(u: &[u32], si: &[u8], w: &[u32], block: [u8; 16]) -> Columns
-    requires utable { UTable u.now }
-    requires inv_stable { InvSTable si.now }
+    requires u_table { UTable u.now }
+    requires inv_s_table { InvSTable si.now }
     requires w_len { length w.now ≡ 44 }
     ensures { words_bytes (result.a ∷ result.b ∷ result.c ∷ result.d ∷ []) ≡ inv_rounds (words_bytes w.now) block 9 }
 {
@@ -291,8 +291,8 @@ fn inv_rounds(u: &[u32], si: &[u8], w: &[u32], block: [u8; 16]) -> Columns
 
 // The inverse cipher of one block under a key schedule.
 pub(crate) fn decrypt_with(u: &[u32], si: &[u8], w: &[u32], block: [u8; 16]) -> [u8; 16]
-    requires utable { UTable u.now }
-    requires inv_stable { InvSTable si.now }
+    requires u_table { UTable u.now }
+    requires inv_s_table { InvSTable si.now }
     requires w_len { length w.now ≡ 44 }
     ensures { result ≡ inv_cipher (words_bytes w.now) block }
 {

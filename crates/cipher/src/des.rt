@@ -93,7 +93,7 @@ pub(crate) fn decrypt_with(sp: &[u32], ks: &[u64], block: [u8; 8]) -> [u8; 8]
 // it waits for a round.
 pub(crate) fn encrypt_once(sp: &[u32], pc2: &[u32], block: [u8; 8], key: [u8; 8]) -> [u8; 8]
     requires sp_table { SpTable sp.now }
-    requires pc2table { Pc2Table pc2.now }
+    requires pc2_table { Pc2Table pc2.now }
     ensures { result ≡ des_encrypt key block }
 {
     let y = transpose(load(key));
@@ -118,7 +118,7 @@ pub(crate) fn encrypt_once(sp: &[u32], pc2: &[u32], block: [u8; 8], key: [u8; 8]
 // C16 and D16 are C0 and D0, since the shifts make 28 places in all; from there C and D turn back.
 pub(crate) fn decrypt_once(sp: &[u32], pc2: &[u32], block: [u8; 8], key: [u8; 8]) -> [u8; 8]
     requires sp_table { SpTable sp.now }
-    requires pc2table { Pc2Table pc2.now }
+    requires pc2_table { Pc2Table pc2.now }
     ensures { result ≡ des_decrypt key block }
 {
     let y = transpose(load(key));
@@ -281,7 +281,7 @@ fn round_key(pc2: &[u32], c: u32, d: u32) -> u64
 
 // The groups of a round key that come from c, which is the sevens m, m + 1, m + 2, m + 3 of C and D.
 fn half_key(pc2: &[u32], m: usize, c: u32) -> u32
-    requires pc2table { Pc2Table pc2.now }
+    requires pc2_table { Pc2Table pc2.now }
     requires m_bound { m < 5 }
     ensures { bits 32 result ≡ pc2_bits m (c / 2 ^ 21) ⊞ (pc2_bits (m + 1) (c / 2 ^ 14) ⊞ (pc2_bits (m + 2) (c / 2 ^ 7) ⊞ pc2_bits (m + 3) c)) }
 {
@@ -294,7 +294,7 @@ fn half_key(pc2: &[u32], m: usize, c: u32) -> u32
 
 // The entry of PC2 for the m-th seven bits, which are the low ones of x.
 fn pick7(pc2: &[u32], m: usize, x: u32) -> u32
-    requires pc2table { Pc2Table pc2.now }
+    requires pc2_table { Pc2Table pc2.now }
     requires m_bound { m < 8 }
     ensures { bits 32 result ≡ pc2_bits m x }
 {

@@ -10,7 +10,7 @@ use crate::{aes, bytes, des};
 
 fn encrypt_des_each(sp: &[u32], pc2: &[u32], block: [u8; 8], keys: &[u8]) -> [u8; 8]
     requires sp_table { SpTable sp.now }
-    requires pc2table { Pc2Table pc2.now }
+    requires pc2_table { Pc2Table pc2.now }
     ensures { result ≡ under_each des_encrypt 8 keys.now block }
 {
     let mut state = block;
@@ -26,7 +26,7 @@ fn encrypt_des_each(sp: &[u32], pc2: &[u32], block: [u8; 8], keys: &[u8]) -> [u8
 
 fn decrypt_des_each(sp: &[u32], pc2: &[u32], block: [u8; 8], keys: &[u8]) -> [u8; 8]
     requires sp_table { SpTable sp.now }
-    requires pc2table { Pc2Table pc2.now }
+    requires pc2_table { Pc2Table pc2.now }
     ensures { result ≡ under_each_back des_decrypt 8 keys.now block }
 {
     let mut state = block;

@@ -20,7 +20,7 @@ fn apply(data: &mut [u8], te: &[u32], w: &[u32], iv: [u8; 16]) -> [u8; 16]
     requires te_table { TeTable te.now }
     requires w_len { length w.now ≡ 44 }
     ensures data_after { «data».new ≡ ofb (cipher (words_bytes w.now)) 16 iv «data».old }
-    ensures value { result ≡ ofb_input (cipher (words_bytes w.now)) 16 (blocks 16 (length «data».old)) iv }
+    ensures next_input { result ≡ ofb_input (cipher (words_bytes w.now)) 16 (blocks 16 (length «data».old)) iv }
 {
     let mut input = iv;
     let mut at = 0;

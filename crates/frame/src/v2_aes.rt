@@ -84,8 +84,8 @@ fn write_aes(
     requires credentials_len { length credentials.now ≡ 36 }
     requires payload_len_bound { length payload.now ≤ 243 }
     requires payload_in_bounds { aes_size (length payload.now) ≤ length out.old }
-    ensures value { result ≡ aes_size (length payload.now) }
-    ensures value_2 { result ≡ length (aes_sealed credentials.now code number id payload.now) }
+    ensures size { result ≡ aes_size (length payload.now) }
+    ensures sealed_length { result ≡ length (aes_sealed credentials.now code number id payload.now) }
     ensures out_after { out.new ≡ over (aes_sealed credentials.now code number id payload.now) out.old }
 {
     let n = payload.len();

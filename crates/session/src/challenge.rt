@@ -106,7 +106,7 @@ fn under_alpha_back(scheme: u8, keys: &[u8], idm: &[u8], block: &[u8]) -> [u8; 1
 
 // 1B and 2A, of their random block.
 fn under_beta(scheme: u8, keys: &[u8], idm: &[u8], challenge_3c: &[u8], block: &[u8]) -> [u8; 16]
-    requires block_value { wrong scheme (length keys.now) (length idm.now) (length block.now) ≡ false }
+    requires not_wrong { wrong scheme (length keys.now) (length idm.now) (length block.now) ≡ false }
     requires challenge_3c_len { length challenge_3c.now ≡ 4 }
     ensures { take (block_size scheme) result ≡ under_beta scheme keys.now idm.now challenge_3c.now block.now }
 {
@@ -127,7 +127,7 @@ fn under_beta_back(
     challenge_3c: &[u8],
     block: &[u8],
 ) -> [u8; 16]
-    requires block_value { wrong scheme (length keys.now) (length idm.now) (length block.now) ≡ false }
+    requires not_wrong { wrong scheme (length keys.now) (length idm.now) (length block.now) ≡ false }
     requires challenge_3c_len { length challenge_3c.now ≡ 4 }
     ensures { take (block_size scheme) result ≡ under_beta_back scheme keys.now idm.now challenge_3c.now block.now }
 {
@@ -230,7 +230,7 @@ fn is_challenge1b(
     challenge_1b: &[u8],
 ) -> bool
     requires challenge_1b_len { length challenge_1b.now ≡ block_size scheme }
-    requires random_1_value { wrong scheme (length keys.now) (length idm.now) (length random_1.now) ≡ false }
+    requires not_wrong { wrong scheme (length keys.now) (length idm.now) (length random_1.now) ≡ false }
     requires challenge_3c_len { length challenge_3c.now ≡ 4 }
     ensures { result ≡ same challenge_1b.now (under_beta scheme keys.now idm.now challenge_3c.now random_1.now) }
 {
@@ -322,7 +322,7 @@ pub fn encrypt_challenge2b(
 
 fn is_challenge2b(scheme: u8, keys: &[u8], idm: &[u8], random_2: &[u8], challenge_2b: &[u8]) -> bool
     requires challenge_2b_len { length challenge_2b.now ≡ block_size scheme }
-    requires random_2_value { wrong scheme (length keys.now) (length idm.now) (length random_2.now) ≡ false }
+    requires not_wrong { wrong scheme (length keys.now) (length idm.now) (length random_2.now) ≡ false }
     ensures { result ≡ same challenge_2b.now (under_alpha scheme keys.now idm.now random_2.now) }
 {
     if scheme == frame::DES {

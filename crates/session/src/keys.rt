@@ -300,7 +300,7 @@ fn derive_for(
 ) -> DerivedAuthKeys
     requires areas_len_bound { length areas.now ≤ 32 }
     requires services_len_bound { length services.now ≤ 32 }
-    requires individual_value { either (eqb (length individual.now) 0) (eqb (length individual.now) 16) ≡ true }
+    requires individual_len { either (eqb (length individual.now) 0) (eqb (length individual.now) 16) ≡ true }
     ensures { Derives (with_room (length out.old) (derived_for mark (entries keys.now) areas.now services.now individual.now)) result out.old out.new }
 {
     let choice = chain_algorithm(mark, keys, areas, services);
@@ -455,7 +455,7 @@ fn derive_aes128(
 ) -> DerivedAuthKeys
     requires areas_len_bound { length areas.now ≤ 32 }
     requires services_len_bound { length services.now ≤ 32 }
-    requires individual_value { either (eqb (length individual.now) 0) (eqb (length individual.now) 16) ≡ true }
+    requires individual_len { either (eqb (length individual.now) 0) (eqb (length individual.now) 16) ≡ true }
     ensures { Derives (with_room (length out.old) (derived_aes (entries keys.now) areas.now services.now individual.now)) result out.old out.new }
 {
     let mut work = [0u8; 1024];

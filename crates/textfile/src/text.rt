@@ -116,7 +116,7 @@ pub fn decode(line: &[u8], k: usize, out: &mut [u8]) -> usize {
 // The first n bytes of a hex text, to the start of out. False at a character that is no digit.
 fn fill(text: &[u8], n: usize, out: &mut [u8]) -> bool
     requires n_in_bounds { n * 2 ≤ length text.now }
-    requires n_in_bounds_2 { n ≤ length out.old }
+    requires out_in_bounds { n ≤ length out.old }
 {
     let mut i = 0;
     while i < n {

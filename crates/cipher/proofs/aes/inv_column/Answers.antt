@@ -5,4 +5,4 @@ use Rattle.cipher.proofs.aes.inv_column.Goals as goal
 pub returns : goal.returns
 returns c =
     let u = c.unsubstituted in
-    inv_column_made c.args.a c.args.b c.args.c c.args.d c.args.k u.result c.column.result u.ensures (c.column.ensures 0x0e 0x0b 0x0d 0x09 (λ x. x) c.requires.utable)
+    inv_column_made c.args.a c.args.b c.args.c c.args.d c.args.k u.result c.column.result u.ensures (c.column.ensures 0x0e 0x0b 0x0d 0x09 (λ x. x) c.requires.u_table)

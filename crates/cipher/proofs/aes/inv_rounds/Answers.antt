@@ -7,22 +7,22 @@ use borrow.Author.Rules.{rules}
 use Rattle.cipher.proofs.aes.inv_rounds.Goals as goal
 
 pub loop-n-init : goal.loop-n-init
-loop-n-init c = (search rules, c.requires.w_len, c.requires.utable, c.requires.inv_stable, λ block e. e)
+loop-n-init c = (search rules, c.requires.w_len, c.requires.u_table, c.requires.inv_s_table, λ block e. e)
 
 pub inv_column-e-requires : goal.inv_column-e-requires
-inv_column-e-requires c = let i = c.loop-n.invariant in record { utable = i.2; inv_stable = i.3 }
+inv_column-e-requires c = let i = c.loop-n.invariant in record { u_table = i.2; inv_s_table = i.3 }
 
 pub inv_column-f-requires : goal.inv_column-f-requires
-inv_column-f-requires c = let i = c.loop-n.invariant in record { utable = i.2; inv_stable = i.3 }
+inv_column-f-requires c = let i = c.loop-n.invariant in record { u_table = i.2; inv_s_table = i.3 }
 
 pub inv_column-g-requires : goal.inv_column-g-requires
-inv_column-g-requires c = let i = c.loop-n.invariant in record { utable = i.2; inv_stable = i.3 }
+inv_column-g-requires c = let i = c.loop-n.invariant in record { u_table = i.2; inv_s_table = i.3 }
 
 pub bounds-w-k-in-loop-n-3 : goal.bounds-w-k-in-loop-n-3
 bounds-w-k-in-loop-n-3 c = omega (arith, c.loop-n-test.true, c.loop-n.invariant.1)
 
 pub inv_column-h-requires : goal.inv_column-h-requires
-inv_column-h-requires c = let i = c.loop-n.invariant in record { utable = i.2; inv_stable = i.3 }
+inv_column-h-requires c = let i = c.loop-n.invariant in record { u_table = i.2; inv_s_table = i.3 }
 
 pub loop-n-preserved : goal.loop-n-preserved
 loop-n-preserved c =

@@ -4,4 +4,4 @@ use Rattle.cipher.proofs.des.pick7.Goals as goal
 
 pub returns : goal.returns
 returns c =
-    pc2_pick _ c.args.m c.args.x c.requires.pc2table c.requires.m_bound
+    pc2_pick _ c.args.m c.args.x c.requires.pc2_table c.requires.m_bound

@@ -38,4 +38,4 @@ returns c =
     let e = v.0.same in
     let a = c.args in
     let n : c.loop-at.at / 16 ≡ (length a.«data».now + 15) / 16 = omega arith in
-    record { data_after = run_done _ _ 16 (lit< tt) v.0 (omega arith); value = v.3 ∙ ap (λ (k : ℕ). ofb_input (cipher (words_bytes a.w.now)) 16 k a.iv) n }
+    record { data_after = run_done _ _ 16 (lit< tt) v.0 (omega arith); next_input = v.3 ∙ ap (λ (k : ℕ). ofb_input (cipher (words_bytes a.w.now)) 16 k a.iv) n }

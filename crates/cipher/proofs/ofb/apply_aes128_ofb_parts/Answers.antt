@@ -14,6 +14,6 @@ returns c =
     let n : ℕ = blocks 16 (length a.first.now) in record {
       first_after = c.apply-next.ensures.data_after ∙ ap (λ (w : List ℕ). ofb (cipher w) 16 a.iv a.first.now) c.expand-w.ensures;
       second_after = c.apply.ensures.data_after
-          ∙ ap (λ (i : List ℕ). ofb (cipher (words_bytes c.expand-w.result)) 16 i a.second.now) c.apply-next.ensures.value
+          ∙ ap (λ (i : List ℕ). ofb (cipher (words_bytes c.expand-w.result)) 16 i a.second.now) c.apply-next.ensures.next_input
           ∙ ap (λ (w : List ℕ). ofb (cipher w) 16 (ofb_input (cipher w) 16 n a.iv) a.second.now) c.expand-w.ensures;
     }

@@ -26,12 +26,12 @@ slice_bounds-frame_with_length_prefix-end c = behind_two c.write_aes-sealed.new.
 pub frame_with_length_prefix-end-requires : goal.frame_with_length_prefix-end-requires
 frame_with_length_prefix-end-requires c =
     let p = aes_seal_passes _ _ _ _ c.guard_seal_aes-refusal.ensures c.if-refusal-ne0.false in
-    record { sealed_bound = omega (arith, p.fits, c.write_aes-sealed.ensures.value); in_bounds = omega arith }
+    record { sealed_bound = omega (arith, p.fits, c.write_aes-sealed.ensures.size); in_bounds = omega arith }
 
 pub slice_bounds-deliver-end : goal.slice_bounds-deliver-end
 slice_bounds-deliver-end c =
     let p = aes_seal_passes _ _ _ _ c.guard_seal_aes-refusal.ensures c.if-refusal-ne0.false in
-    omega (arith, p.fits, c.write_aes-sealed.ensures.value, c.frame_with_length_prefix-end.ensures.0)
+    omega (arith, p.fits, c.write_aes-sealed.ensures.size, c.frame_with_length_prefix-end.ensures.0)
 
 pub returns : goal.returns
 returns c =
@@ -43,5 +43,5 @@ returns c =
     let t = c.frame_with_length_prefix-end.ensures in
     let v = c.frame_with_length_prefix-end.new.out in
     rw (aes_frame_steps a.credentials.now a.id.now a.payload.now a.code a.number (length o))
-    (delivered_frame (aes_seal_rows (length a.id.now) (length a.credentials.now) (length a.payload.now)) (aes_sealed a.credentials.now a.code a.number a.id.now p) _ _ o _ v c.frame_with_length_prefix-end.result h.rows (sym c.write_aes-sealed.ensures.value ∙ c.write_aes-sealed.ensures.value_2 ∙ ap length b) (omega (arith, h.fits)) a.code (length o) h.some
-    (ap (λ (k : ℕ). take k v) t.0 ∙ frame_front _ a.code (aes_sealed a.credentials.now a.code a.number c.six.result p) (replicate 256 0) _ _ _ _ c.write_aes-sealed.ensures.value_2 (omega arith) c.write_aes-sealed.ensures.out_after t.1 ∙ ap (framed a.code) b) c.deliver.ensures)
+    (delivered_frame (aes_seal_rows (length a.id.now) (length a.credentials.now) (length a.payload.now)) (aes_sealed a.credentials.now a.code a.number a.id.now p) _ _ o _ v c.frame_with_length_prefix-end.result h.rows (sym c.write_aes-sealed.ensures.size ∙ c.write_aes-sealed.ensures.sealed_length ∙ ap length b) (omega (arith, h.fits)) a.code (length o) h.some
+    (ap (λ (k : ℕ). take k v) t.0 ∙ frame_front _ a.code (aes_sealed a.credentials.now a.code a.number c.six.result p) (replicate 256 0) _ _ _ _ c.write_aes-sealed.ensures.sealed_length (omega arith) c.write_aes-sealed.ensures.out_after t.1 ∙ ap (framed a.code) b) c.deliver.ensures)

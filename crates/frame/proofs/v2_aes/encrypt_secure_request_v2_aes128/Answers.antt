@@ -23,7 +23,7 @@ write_aes-end-requires c =
 pub slice_bounds-deliver-end : goal.slice_bounds-deliver-end
 slice_bounds-deliver-end c =
     let p = aes_seal_passes _ _ _ _ c.guard_seal_aes-refusal.ensures c.if-refusal-ne0.false in
-    omega (arith, p.fits, c.write_aes-end.ensures.value)
+    omega (arith, p.fits, c.write_aes-end.ensures.size)
 
 pub returns : goal.returns
 returns c =
@@ -34,5 +34,5 @@ returns c =
     let h = aes_seal_passes _ _ _ _ c.guard_seal_aes-refusal.ensures c.if-refusal-ne0.false in
     let b : aes_sealed a.credentials.now a.code a.number c.six.result p ≡ aes_sealed a.credentials.now a.code a.number a.id.now p = ap (λ (⟦After-guard_seal_aes⟧ : List ℕ). aes_sealed a.credentials.now a.code a.number ⟦After-guard_seal_aes⟧ p) (c.six.ensures.1 h.six) in
     rw (aes_seal_steps a.credentials.now a.id.now a.payload.now a.code a.number (length o))
-    (delivered (aes_seal_rows (length a.id.now) (length a.credentials.now) (length a.payload.now)) (aes_sealed a.credentials.now a.code a.number a.id.now p) _ _ o _ v c.write_aes-end.result h.rows (sym c.write_aes-end.ensures.value ∙ c.write_aes-end.ensures.value_2 ∙ ap length b) (omega (arith, h.fits)) (length o)
-    (front (aes_sealed a.credentials.now a.code a.number c.six.result p) (replicate 256 0) v c.write_aes-end.result (sym c.write_aes-end.ensures.value_2) c.write_aes-end.ensures.out_after ∙ b) c.deliver.ensures)
+    (delivered (aes_seal_rows (length a.id.now) (length a.credentials.now) (length a.payload.now)) (aes_sealed a.credentials.now a.code a.number a.id.now p) _ _ o _ v c.write_aes-end.result h.rows (sym c.write_aes-end.ensures.size ∙ c.write_aes-end.ensures.sealed_length ∙ ap length b) (omega (arith, h.fits)) (length o)
+    (front (aes_sealed a.credentials.now a.code a.number c.six.result p) (replicate 256 0) v c.write_aes-end.result (sym c.write_aes-end.ensures.sealed_length) c.write_aes-end.ensures.out_after ∙ b) c.deliver.ensures)

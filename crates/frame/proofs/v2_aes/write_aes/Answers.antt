@@ -38,4 +38,4 @@ returns c =
     c.challenge_3c.ensures c.build_initial_vector_v2_aes128-iv.ensures c.mac_key.ensures c.calculate_mac_v2_aes128-mac.ensures (omega (arith, c.calculate_mac_v2_aes128-mac.type_inv))
     c.copy.ensures c.copy-2.ensures refl c.cipher_key.ensures c.apply_aes128_ofb_parts.ensures.first_after c.apply_aes128_ofb_parts.auto.first refl
     c.apply_aes128_ofb_parts.ensures.second_after c.apply_aes128_ofb_parts.auto.second c.copy-3.ensures in
-    record { value = refl; value_2 = w.0; out_after = w.1 }
+    record { size = refl; sealed_length = w.0; out_after = w.1 }

@@ -10,7 +10,7 @@ returns-then-is_wrong_with_3c c =
     gives_refused (wrong_with_3c a.scheme (length a.keys.now) (length a.idm.now) (length a.challenge_2a.now) (length a.challenge_3c.now)) _ _ _ _ _ c.is_wrong_with_3c.ensures c.if-is_wrong_with_3c.true c.refused.ensures
 
 pub under_beta_back-block-requires : goal.under_beta_back-block-requires
-under_beta_back-block-requires c = let p = with_3c_lem _ _ _ _ _ _ c.is_wrong_with_3c.ensures c.if-is_wrong_with_3c.false in record { block_value = p.0; challenge_3c_len = p.1 }
+under_beta_back-block-requires c = let p = with_3c_lem _ _ _ _ _ _ c.is_wrong_with_3c.ensures c.if-is_wrong_with_3c.false in record { not_wrong = p.0; challenge_3c_len = p.1 }
 
 pub returns : goal.returns
 unfolding reading_2a

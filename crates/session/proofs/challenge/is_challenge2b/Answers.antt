@@ -6,21 +6,21 @@ use Rattle.session.proofs.Challenges.{compared, first, second, size_des_lem, siz
 use Rattle.session.proofs.challenge.is_challenge2b.Goals as goal
 
 pub des_context-context-requires : goal.des_context-context-requires
-des_context-context-requires c = let l = (des_lengths _ _ _ _ c.requires.random_2_value c.if-scheme-eq-DES.true).0 in record { keys_len = l.0; idm_len = l.1 }
+des_context-context-requires c = let l = (des_lengths _ _ _ _ c.requires.not_wrong c.if-scheme-eq-DES.true).0 in record { keys_len = l.0; idm_len = l.1 }
 
 pub returns-then-scheme-eq-DES : goal.returns-then-scheme-eq-DES
 unfolding under_alpha
 returns-then-scheme-eq-DES c =
-    let l = des_lengths _ _ _ _ c.requires.random_2_value c.if-scheme-eq-DES.true in
+    let l = des_lengths _ _ _ _ c.requires.not_wrong c.if-scheme-eq-DES.true in
     compared _ _ _ _ _ c.verify_challenge2b.ensures (c.eight.ensures.1 (c.requires.challenge_2b_len ∙ size_des_lem _ c.if-scheme-eq-DES.true))
     ((λ j. tdea2_encrypt (c.des_context-context.ensures.1 j) (c.des_context-context.ensures.0 j) (c.eight-random.ensures.1 l.1 j)) ∙ sym (first _ _ _ c.if-scheme-eq-DES.true))
 
 pub aes_context-context-requires : goal.aes_context-context-requires
-aes_context-context-requires c = let l = (aes_lengths _ _ _ _ c.requires.random_2_value c.if-scheme-eq-DES.false).0 in record { keys_len = l.0; idm_len = l.1 }
+aes_context-context-requires c = let l = (aes_lengths _ _ _ _ c.requires.not_wrong c.if-scheme-eq-DES.false).0 in record { keys_len = l.0; idm_len = l.1 }
 
 pub returns : goal.returns
 unfolding under_alpha
 returns c =
-    let l = aes_lengths _ _ _ _ c.requires.random_2_value c.if-scheme-eq-DES.false in
+    let l = aes_lengths _ _ _ _ c.requires.not_wrong c.if-scheme-eq-DES.false in
     compared _ _ _ _ _ c.verify_challenge2b-2.ensures (c.sixteen.ensures.1 (c.requires.challenge_2b_len ∙ size_aes _ c.if-scheme-eq-DES.false))
     (ap₂ aes_encrypt c.aes_context-context.ensures.0 (c.sixteen-random.ensures.1 l.1) ∙ sym (second _ _ _ c.if-scheme-eq-DES.false))

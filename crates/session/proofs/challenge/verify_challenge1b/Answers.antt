@@ -25,7 +25,7 @@ returns-then-wrong c =
 pub is_challenge1b-requires : goal.is_challenge1b-requires
 is_challenge1b-requires c =
     let p = with_3c_lem _ _ _ _ _ _ c.is_wrong_with_3c-wrong.ensures c.if-wrong.false in
-    record { challenge_1b_len = c.if-challenge_1b-block_size.false ∙ c.block_size.ensures; random_1_value = p.0; challenge_3c_len = p.1 }
+    record { challenge_1b_len = c.if-challenge_1b-block_size.false ∙ c.block_size.ensures; not_wrong = p.0; challenge_3c_len = p.1 }
 
 pub returns : goal.returns
 unfolding checking_1b

@@ -24,7 +24,7 @@ returns-then-wrong c =
 
 pub is_challenge2b-requires : goal.is_challenge2b-requires
 is_challenge2b-requires c =
-    record { challenge_2b_len = c.if-challenge_2b-block_size.false ∙ c.block_size.ensures; random_2_value = sym c.is_wrong-wrong.ensures ∙ c.if-wrong.false }
+    record { challenge_2b_len = c.if-challenge_2b-block_size.false ∙ c.block_size.ensures; not_wrong = sym c.is_wrong-wrong.ensures ∙ c.if-wrong.false }
 
 pub returns : goal.returns
 unfolding checking_2b

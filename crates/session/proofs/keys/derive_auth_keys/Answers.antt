@@ -50,7 +50,7 @@ derive_for-requires c =
     let q2 = length-take {A = ℕ} c.parse_nodes-s.result c.parse_nodes-s.new.out in
     let f1 = h.few_areas in
     let f2 = h.few_services in
-    record { areas_len_bound = omega (arith, q1); services_len_bound = omega (arith, q2); individual_value = h.individual_fits }
+    record { areas_len_bound = omega (arith, q1); services_len_bound = omega (arith, q2); individual_len = h.individual_fits }
 
 pub returns : goal.returns
 returns c =
