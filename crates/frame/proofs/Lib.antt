@@ -13,13 +13,11 @@
 -- MacBits: the DES MAC never sees the lowest bit of a byte
 -- Pads: padding
 -- RegistrationPackage: registration packages, step by step
--- Responses: a parsed response and its delivery, for the proofs by hand
+-- Responses: a parsed response and its delivery
 -- Rooms: row 16 of an opening
 -- Schemes: what a scheme mark chooses, and the forecast
 -- Sealing: when sealing answers with the sealed data
--- Six: arrays of six bytes by value, for the proofs by hand
 -- Trims: the trimmed opening
--- Walks: what the proofs by hand share, and how to change such a proof
 -- WorkBlocks: what was sealed in a work block and goes out last
 pub mod AesOpens
 pub mod AesSeals
@@ -40,7 +38,5 @@ pub mod Responses
 pub mod Rooms
 pub mod Schemes
 pub mod Sealing
-pub mod Six
 pub mod Trims
-pub mod Walks
 pub mod WorkBlocks

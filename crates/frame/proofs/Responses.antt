@@ -1,4 +1,4 @@
--- A parsed response and its delivery, for the proofs by hand. Assumes nothing.
+-- A parsed response and its delivery. Assumes nothing.
 use Prim.Native.Nat.{ℕ, ◌≤◌}
 use mathlib.Core.List.{List}
 use lib.ListN.{length}

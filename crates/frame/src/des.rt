@@ -105,8 +105,8 @@ pub(crate) struct SecureResponseHeader {
     pub(crate) transaction_id: [u8; 6],
 }
 
-// A parsed response: its header, and the payload inside the plain text, without the MAC. Functions with it as parameter or answer are
-// proved by hand (docs/DECISIONS.md), so all that decides something stands in functions without it.
+// A parsed response: its header, and the payload inside the plain text, without the MAC. All that decides something stands in functions
+// without it (docs/DECISIONS.md).
 #[derive(Clone, Copy)]
 pub(crate) struct SecureResponse<'a> {
     pub(crate) header: SecureResponseHeader,
@@ -199,7 +199,7 @@ impl<'a> SecureResponse<'a> {
     }
 }
 
-// The same by plain parameters, so that its callers need no proof by hand.
+// The same by plain parameters, so that its callers need nothing of the response's type.
 fn parse_and_deliver<'a, 'b>(id: [u8; 6], plain: &'a [u8], out: &'b mut [u8]) -> Answer
     requires { (16 ≤ length plain.now) × (length plain.now ≤ 256) }
     ensures { Meets (parsed_delivering id plain.now (length out.old)) result out.old out.new }

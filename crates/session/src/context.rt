@@ -272,7 +272,7 @@ pub fn set_transaction_number(context: &mut AuthenticatedContext, value: u16)
     context.transaction_number = value;
 }
 
-// Takes a session by value and lends it for its step, so that its callers need no proof by hand.
+// Takes a session by value, lends it for its step and gives it back.
 pub fn advance(context: AuthenticatedContext) -> Stepped
     ensures { Steps context result.answer result.context }
 {
