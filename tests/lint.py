@@ -11,6 +11,7 @@ tests/lint_test.py plants a fault for each.
     public-requires   a public or exported function has a `requires`
     public-ensures    a public or exported function of a library crate has no `ensures`
     own-symbol        a name of the kit is given another meaning
+    hidden-name       a name of the code hides what a contract brings in
     proofs-cited      a contract or a definition cites a proof
     inner-cited       a public contract, a named theorem or an outer definition cites specs/inner/
     lower-unfolded    a crate opens a definition of a crate below it
@@ -26,10 +27,10 @@ import os
 import re
 import sys
 
-# the kit's libraries: a module of theirs starts with one of these names
-KIT = ("mathlib", "Prim", "lib", "native", "borrow", "denote", "mir")
+# the kit's logic: a module of its libraries starts with one of these names. A module of a crate starts with Rattle and the crate's name.
+LOGIC = "Prim abs base borrow contract denote ghost lib logic mathlib mir native prog seplogic sound std store tests text types".split()
 # names that every file has from the kit with no `use`
-PRELUDE = "⊥ absurd ¬_ Unit tt Dec yes no Discrete IsProp IsSet Id J Path ∥_∥₁ ∣_∣₁ squash₁".split()
+PRELUDE = "⊥ absurd ¬◌ Unit tt Dec yes no Discrete IsProp IsSet Id J Path ∥◌∥₁ ∣◌∣₁ squash₁".split()
 # the crate whose definitions are words, not operations: every crate above may open them
 VOCABULARY = "answer"
 # how the files that are read for words end; of tools/ each file is read
@@ -43,7 +44,7 @@ def read(top):
     """The repository's files: path, text. None is the text of a file that no rule reads."""
     tree = {}
     for folder, names, here in os.walk(top):
-        names[:] = [n for n in names if n not in ("target", ".git", "__pycache__")]
+        names[:] = [n for n in names if n not in ("target", "out", ".git", "__pycache__")]
         for name in here:
             full = os.path.join(folder, name)
             path = os.path.relpath(full, top).replace(os.sep, "/")
@@ -88,12 +89,12 @@ class File:
 
 # A name is a run of any characters but spaces and ( ) { } . ; , @ " « »; or it is escaped, « ».
 NAME = re.compile(r"«[^»]*»|[^\s(){}.;,@\"«»]+")
-MARKS = ("unfoldable", "abbrev", "axiom", "pub")
+MARKS = ("pattern", "unfoldable", "abbrev", "axiom", "pub")
 
 
 def plain(name):
-    """«x» is x. «x_y» is no operator, and stays as it is."""
-    return name[1:-1] if name.startswith("«") and "_" not in name else name
+    """«x» is x."""
+    return name[1:-1] if name.startswith("«") else name
 
 
 def names(s):
@@ -128,19 +129,15 @@ def uses(s, ghost):
     return [Use(s, m) for m in re.finditer(line, s, re.M)]
 
 
-def is_kit(module):
-    return module.split(".")[0] in KIT
-
-
 def crate_of(path):
-    """The crate of this repository that a module, or a name written with its whole path, belongs to."""
-    m = re.match(r"(?:package\.)?Rattle·(\w+)", path)
+    """The crate that a module, or a name written with its whole path, belongs to: one of this repository, or of the kit."""
+    m = re.match(r"(?:package\.)?Rattle\.(\w+)", path)
     return m.group(1) if m else None
 
 
 def cites(s, name):
     """Does the text use the name? An operator is used by what stands between its operands."""
-    parts = [p for p in name.split("_") if p] if "«" not in name else [name]
+    parts = [p for p in name.split("◌") if p]
     here = set(names(s))
     return name in here or all(p in here for p in parts)
 
@@ -228,11 +225,11 @@ def declarations(s):
 # ---- what a text of Rattle says
 
 
-def end_of_clause(s, at):
+def end_of(s, at, brackets="{}"):
     """The place after the bracket that closes the one at `at`."""
     depth = 0
-    for i in range(at, len(s)):
-        depth += (s[i] == "{") - (s[i] == "}")
+    for i in range(max(at, 0), len(s)):
+        depth += (s[i] == brackets[0]) - (s[i] == brackets[1])
         if depth == 0:
             return i + 1
     return len(s)
@@ -251,8 +248,8 @@ def head_of(s, start):
             return s[start:]
         if m.group()[0] == "[":
             at = m.end()
-        elif m.group() == "{" and re.search(r"\b(?:requires|ensures)\s*$", s[start:m.start()]):
-            at = end_of_clause(s, m.start())
+        elif m.group() == "{" and re.search(r"\b(?:(?:requires|ensures)\b\*?(?:\s+[\w«»]+)?|ghost\s+\w+\s*:)\s*$", s[start:m.start()]):
+            at = end_of(s, m.start())
         else:
             return s[start:m.start()]
 
@@ -261,16 +258,30 @@ class Function:
     def __init__(self, s, m):
         self.mark, self.name, self.line = m.group(1), m.group(2), line_of(s, m.start(1))
         self.head = head_of(s, m.end())
-        self.public = self.mark.startswith("pub ") or "extern" in self.mark
+        self.public = self.mark.startswith("pub ") or "extern" in self.mark or any(a < m.start() < b for a, b in traits(s))
+
+    def parameters(self):
+        inside = self.head[:end_of(self.head, self.head.find("("), "()")]
+        return re.findall(r"[(,]\s*(?:mut\s+)?(\w+)\s*:(?!:)", inside)
 
     def has(self, clause):
-        return re.search(r"\b%s\s*\{" % clause, self.head)
+        """Has it such a clause? It may have a name, as `requires low { .. }`, and a star."""
+        return re.search(r"\b%s\b\*?\s*(?:[\w«»]+\s*)?\{" % clause, self.head)
+
+
+@functools.lru_cache(None)
+def traits(s):
+    """From where to where the public traits stand."""
+    return [(m.start(), end_of(s, m.end() - 1)) for m in re.finditer(r"\bpub trait\b[^{]*\{", s)]
 
 
 @functools.lru_cache(None)
 def functions(s):
     return [Function(s, m) for m in re.finditer(r"^[ \t]*(?:#\[[^\]]*\]\s*)*((?:[\w()\"]+[ \t]+)*?fn[ \t]+(\w+))", s, re.M)]
 
+
+# what a crate names of std to read and write
+READS = re.compile(r"\bstd\s*::\s*(?:\{[^;]*\b)?(?:fs|io|env|rt)\b")
 
 # ---- the repository
 
@@ -284,19 +295,23 @@ class Repository:
         self.specs = [f for f in self.files if f.part == "specs"]
         self.proofs = [f for f in self.files if f.part == "proofs"]
         # each name that contracts and definitions have from the kit, and the module that most of them have it from
-        brought = [(there, u.module) for f in self.rt + self.specs for u in f.uses if is_kit(u.module) for there, _ in u.items]
+        brought = [(there, u.module) for f in self.rt + self.specs for u in f.uses if self.is_kit(u.module) for there, _ in u.items]
         counts = collections.Counter(brought)
         self.home = {name: module for name, module in sorted(counts, key=counts.get)}
         self.kit = set(PRELUDE) | set(self.home)
 
     def listed(self):
-        """crates.txt: each crate with what it depends on."""
+        """crates.txt: each crate with what it depends on. Behind its name a line may say more of it, as `name staticlib: low`."""
         found = {}
         for line in self.tree["crates.txt"].split("\n"):
             name, colon, rest = line.split("#")[0].partition(":")
-            if colon:
-                found[name.strip()] = rest.split()
+            if colon and name.strip():
+                found[name.split()[0]] = rest.split()
         return found
+
+    def is_kit(self, module):
+        """Is it a module of the kit: of its logic, or of a crate that is none of this repository?"""
+        return module.split(".")[0] in LOGIC or crate_of(module) not in (None, *self.depends)
 
     def below(self, crate):
         """The crates of the repository that it depends on, and that those depend on."""
@@ -308,12 +323,20 @@ class Repository:
                 todo += self.depends[name]
         return found
 
+    def opens(self, name):
+        """Is this, by its whole path, a definition of specs/, or one of proofs/ that others may open, and no lemma?"""
+        _, crate, part, *_ = (*name.split("."), "", "")
+        return part == "specs" or any(name.split(".")[-1] in marked(f.text) for f in self.proofs if f.crate == crate)
+
     def is_program(self, crate):
         return "crates/%s/src/main.rt" % crate in self.tree
 
     def libraries(self):
-        """The library crates of the product. What reads and writes (a crate over io, libc or os) is part of a test program."""
-        return {c for c in self.depends if not self.is_program(c) and not {"io", "libc", "os"} & set(self.depends[c])}
+        """The library crates of the product. What reads and writes, over std, and is there for programs alone is part of a test program."""
+        users = {c: {u for u in self.depends if c in self.depends[u]} for c in self.depends}
+        tests = {f.crate for f in self.rt if READS.search(f.text)}
+        tests = {c for c in tests if users.get(c) and all(map(self.is_program, users[c]))}
+        return {c for c in self.depends if not self.is_program(c)} - tests
 
     def fault(self, rule, path, line, what):
         self.faults.append("%s: %s:%d: %s" % (rule, path, line, what))
@@ -359,21 +382,35 @@ def own_imports(repo):
     for f in repo.files:
         for u in f.uses:
             for there, here in u.items:
-                wrong = there != here or not is_kit(u.module) or f.part != "proofs" and u.module != repo.home.get(there)
+                wrong = there != here or not repo.is_kit(u.module) or f.part != "proofs" and u.module != repo.home.get(there)
                 if wrong and (here in repo.kit or there in repo.kit):
                     said = there if there == here else "%s as %s" % (there, here)
                     repo.fault("own-symbol", f.path, u.line, "%s comes from %s" % (said, u.module))
-            if u.called in KIT and not is_kit(u.module):
+            if u.called in (*LOGIC, "Rattle") and not repo.is_kit(u.module):
                 repo.fault("own-symbol", f.path, u.line, "%s is called %s" % (u.module, u.called))
         for line, name in modules(f.text):
-            if f.part != "src" and name in KIT:
+            if f.part != "src" and name in (*LOGIC, "Rattle"):
                 repo.fault("own-symbol", f.path, line, "a module is called %s" % name)
+
+
+def hidden_names(repo):
+    """A clause reads a name of the code before one that a `ghost use` brings. So no constant, no type, and no parameter of a public function is
+    called as something that a contract brings in."""
+    brought = {n: u.module for f in repo.rt for u in f.uses if ".declared." not in u.module for n in u.brings()}
+    for f in repo.rt:
+        for m in re.finditer(r"\b(?:const|static|struct|enum|union|trait|type)\s+(?:mut\s+)?(\w+)", f.text):
+            if m.group(1) in brought:
+                repo.fault("hidden-name", f.path, line_of(f.text, m.start()), "%s hides what comes from %s" % (m.group(1), brought[m.group(1)]))
+        here = {n for u in f.uses for n in u.brings()}
+        for g in functions(f.text):
+            for name in here & set(g.parameters()) if g.public else ():
+                repo.fault("hidden-name", f.path, g.line, "%s, a parameter of %s, hides what comes from %s" % (name, g.name, brought.get(name)))
 
 
 def proofs_cited(repo):
     """What a contract means stands in specs/: neither code nor definitions cite proofs/."""
     for f in repo.rt + repo.specs:
-        for m in re.finditer(r"[.·]proofs\b.*", f.text):
+        for m in re.finditer(r"\.proofs\b.*", f.text):
             repo.fault("proofs-cited", f.path, line_of(f.text, m.start()), m.group()[1:])
 
 
@@ -428,38 +465,66 @@ def inner_theorems(repo):
 
 @functools.lru_cache(None)
 def opened(s):
-    """The names that a text opens: after `unfolding`, between `unfold` and `in`, alone in the list of a `simp` or a `ruleset`. As (place, name)."""
+    """The names that a text opens: after `unfolding`, between `unfold` and `in`. As (place, name)."""
     found = []
     for m in re.finditer(r"^([ \t]*)unfolding\b([^\n]*(?:\n\1[ \t]+[^\n]*)*)", s, re.M):
         found += [(m.start(2), name) for name in m.group(2).split()]
     for m in re.finditer(r"\bunfold\s+((?:[^\s()]+\s+)+?)in\b", s):
         found += [(m.start(), name) for name in m.group(1).split()]
-    for m in re.finditer(r"(?:\bsimp|\bruleset\s+\S+\s+=)\s+(?:\(([^()]*)\)|([^\s()]+))", s):
-        entries = [e.strip().lstrip("←").strip() for e in (m.group(1) or m.group(2)).split(",")]
+    return found
+
+
+@functools.lru_cache(None)
+def listed(s):
+    """The names that stand alone in the list of a `simp`, a `rw` or a `ruleset`, which opens a definition and applies a lemma. As (place, name)."""
+    found = []
+    for m in re.finditer(r"(?:\bsimp|\brw|\bruleset\s+\S+\s+=)\s+(?:\(([^()]*)\)|([^\s()]+))", s):
+        entries = [e.strip().lstrip("←").strip() for e in (m.group(1) or m.group(2) or "").split(",")]
         found += [(m.start(), e) for e in entries if e and " " not in e]
     return found
 
 
-def origins(f):
-    """Where each name comes from that a file brings in: name, crate. A module may be reached through what another line calls it."""
+@functools.lru_cache(None)
+def opened_in_code(s):
+    """The paths that an attribute opens: `unfolding(cipher::specs::Bytes::tab)`. As (place, path)."""
+    return [(m.start(), path.strip()) for m in re.finditer(r"\bunfolding\s*\(([^()]*)\)", s) for path in m.group(1).split(",") if path.strip()]
+
+
+@functools.lru_cache(None)
+def marked(s):
+    """The definitions of a text that others may open."""
+    return set(re.findall(r"^[ \t]*(?:pattern\s+)?(?:(?:unfoldable|abbrev)\s+)+(?:pub\s+)?(\S+)", s, re.M))
+
+
+def whole_names(f):
+    """What a file's names stand for, by their whole paths. A module may be reached through what another line calls it."""
     found = {}
+
+    def whole(name):
+        first, *rest = name.split(".")
+        return ".".join([found.get(plain(first), first), *map(plain, rest)])
+
     for u in f.uses:
-        crate = crate_of(u.module) or found.get(u.module.split(".")[0])
-        found.update({n: crate for n in u.brings()})
-    return found
+        module = whole(u.module)
+        found.update({here: "%s.%s" % (module, there) for there, here in u.items})
+        if u.called:
+            found[u.called] = module
+    return whole
 
 
 def layers(repo):
     """A crate opens no definition of a crate below it: it goes by that crate's laws. The words of outcomes are free. Programs are tests."""
     for f in repo.files:
-        if not f.path.endswith(".antt") or repo.is_program(f.crate):
+        if repo.is_program(f.crate):
             continue
-        lower = repo.below(f.crate) - {VOCABULARY}
-        origin = origins(f)
-        for at, name in opened(f.text):
-            crate = crate_of(name) or origin.get(plain(name.split(".")[0]))
-            if crate in lower:
-                repo.fault("lower-unfolded", f.path, line_of(f.text, at), "%s is of %s" % (name, crate))
+        lower, whole = repo.below(f.crate) - {VOCABULARY}, whole_names(f)
+        if f.path.endswith(".rt"):
+            found = [(at, path) for at, path in opened_in_code(f.text) if path.split("::")[0] in lower]
+        else:
+            found = [(at, name) for at, name in opened(f.text) if crate_of(whole(name)) in lower]
+            found += [(at, name) for at, name in listed(f.text) if crate_of(whole(name)) in lower and repo.opens(whole(name))]
+        for at, name in found:
+            repo.fault("lower-unfolded", f.path, line_of(f.text, at), "%s is of a crate below" % name)
         for u in f.uses:
             if "unfoldable" in u.passes and crate_of(u.module) in lower:
                 repo.fault("lower-unfolded", f.path, u.line, "%s is passed on to be opened" % u.module)
@@ -503,7 +568,7 @@ def words(repo):
                 repo.fault("machine-path", path, number, line)
 
 
-RULES = (crates, words, contracts, own_definitions, own_imports, proofs_cited, inner_contracts, inner_definitions, inner_theorems, layers,
+RULES = (crates, words, contracts, own_definitions, own_imports, hidden_names, proofs_cited, inner_contracts, inner_definitions, inner_theorems, layers,
          tables, edits)
 
 
