@@ -115,7 +115,7 @@ def refusals(top):
     for number, (fact, log) in enumerate(LOGS, 1):
         write(os.path.join(top, "log"), log)
         status, said = run(tool + ["--whole"], top, PATH=path, LOG=os.path.join(top, "log"))
-        if status != (0 if fact else 1):
+        if status != (0 if fact else 1) or "cannot be applied" in said:
             wrong.append("refusals: the log %d: status %d: %s" % (number, status, said.strip()))
     os.mkdir(os.path.join(top, "none"))
     if run(tool + [os.path.join(top, "log")], os.path.join(top, "none"))[0] != 1:
