@@ -71,9 +71,9 @@ installcheck:
 	bash tests/install
 
 run-vectors:
-	rt check vectors
+	rt ci vectors
 	@echo
-	@cd crates/vectors/data && ../../../target/bin/vectors
+	@cat crates/vectors/out/stdout
 
 vectors:
 	apt-get install -y python3-cryptography python3-cryptography-vectors
