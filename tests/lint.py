@@ -325,8 +325,8 @@ class Repository:
 
     def opens(self, name):
         """Is this, by its whole path, a definition of specs/, or one of proofs/ that others may open, and no lemma?"""
-        _, crate, part, *_ = (*name.split("."), "", "")
-        return part == "specs" or any(name.split(".")[-1] in marked(f.text) for f in self.proofs if f.crate == crate)
+        first, crate, part, *_ = (*name.split("."), "", "")
+        return first == "Rattle" and part == "specs" or any(name.split(".")[-1] in marked(f.text) for f in self.proofs if f.crate == crate)
 
     def is_program(self, crate):
         return "crates/%s/src/main.rt" % crate in self.tree
@@ -519,12 +519,13 @@ def layers(repo):
             continue
         lower, whole = repo.below(f.crate) - {VOCABULARY}, whole_names(f)
         if f.path.endswith(".rt"):
-            found = [(at, path) for at, path in opened_in_code(f.text) if path.split("::")[0] in lower]
+            found = [(at, path, path.split("::")[0]) for at, path in opened_in_code(f.text)]
         else:
-            found = [(at, name) for at, name in opened(f.text) if crate_of(whole(name)) in lower]
-            found += [(at, name) for at, name in listed(f.text) if crate_of(whole(name)) in lower and repo.opens(whole(name))]
-        for at, name in found:
-            repo.fault("lower-unfolded", f.path, line_of(f.text, at), "%s is of a crate below" % name)
+            found = [(at, name, crate_of(whole(name))) for at, name in opened(f.text)]
+            found += [(at, name, crate_of(whole(name))) for at, name in listed(f.text) if repo.opens(whole(name))]
+        for at, name, crate in found:
+            if crate in lower:
+                repo.fault("lower-unfolded", f.path, line_of(f.text, at), "%s is of %s" % (name, crate))
         for u in f.uses:
             if "unfoldable" in u.passes and crate_of(u.module) in lower:
                 repo.fault("lower-unfolded", f.path, u.line, "%s is passed on to be opened" % u.module)
