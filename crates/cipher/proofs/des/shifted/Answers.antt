@@ -6,7 +6,6 @@ use mathlib.Core.Path.{◌≡◌}
 use lib.ListN.{get_or}
 use Rattle.cipher.specs.Fips46.{shifts}
 use Rattle.cipher.proofs.des.shifted.Goals as goal
-use Rattle.cipher.proofs.des.shifted.Goals.{in-8-1, in_default+then-i-lt2}
 
 pub returns-in_default : goal.returns-in_default
 returns-in_default c =
@@ -16,5 +15,5 @@ returns-in_default c =
 pub returns-in-0 : goal.returns-in-0
 returns-in-0 c =
     let i = c.args.i in
-    let h : get_or shifts i 0 ≡ 1 = elim c.in-0-1.branch [ in-8-1 w ↦ once_at i (search rules) | in_default+then-i-lt2 w ↦ once_first i c.requires.i_bound (omega arith) ] in
+    let h : get_or shifts i 0 ≡ 1 = search (rules, once_first, once_at) in
     record { result_value = shift_word 1 27 c.args.c _ c.requires.c_bound h; upper_bound = omega arith }

@@ -1,3 +1,4 @@
+use borrow.Author.Rules.{rules}
 use mathlib.Core.Path.{◌≡◌, refl, sym, ap, ◌∙◌}
 use Prim.Native.Nat.{◌≤◌}
 use native.Mathlib.Omega.{arith}
@@ -16,14 +17,14 @@ use Rattle.frame.proofs.des.decrypt_secure_response_trimmed_des.Goals as goal
 pub returns-then-refusal-ne0 : goal.returns-then-refusal-ne0
 returns-then-refusal-ne0 c =
     let a = c.args in
-    let b : Bytes a.«data».now = λ j. omega (arith, c.shared_slice_known-3-1.given j) in
+    let b : Bytes a.«data».now = λ j. search rules in
     rw (trimmed_refuses a.key.now a.id.now a.«data».now a.code b _ c.decrypt_secure_response_des-opened.ensures.number (length a.out.now) c.if-refusal-ne0.true) (refused_meets _ _ a.out.now c.refused.ensures)
 
 pub slice_bounds-work-end : goal.slice_bounds-work-end
 unfolding accepted
 slice_bounds-work-end c =
     let a = c.args in
-    let b : Bytes a.«data».now = λ j. omega (arith, c.shared_slice_known-3-1.given j) in
+    let b : Bytes a.«data».now = λ j. search rules in
     let t = trimmed_opens a.key.now a.id.now a.«data».now a.code b _ c.decrypt_secure_response_des-opened.ensures.number (length a.out.now) c.if-refusal-ne0.false in
     let n = c.decrypt_secure_response_des-opened.ensures.length_is ∙ ap (λ (o : Outcome). length o.bytes) t.0 in
     let s = t.2 in
@@ -32,7 +33,7 @@ slice_bounds-work-end c =
 pub slice_bounds-trim_payload-end : goal.slice_bounds-trim_payload-end
 unfolding accepted
 slice_bounds-trim_payload-end c = sym (length-take-le _ _ ((let a = c.args in
-    let b : Bytes a.«data».now = λ j. omega (arith, c.shared_slice_known-3-1.given j) in
+    let b : Bytes a.«data».now = λ j. search rules in
     let t = trimmed_opens a.key.now a.id.now a.«data».now a.code b _ c.decrypt_secure_response_des-opened.ensures.number (length a.out.now) c.if-refusal-ne0.false in
     let n = c.decrypt_secure_response_des-opened.ensures.length_is ∙ ap (λ (o : Outcome). length o.bytes) t.0 in
     let s = t.2 in
@@ -42,7 +43,7 @@ pub returns : goal.returns
 unfolding accepted
 returns c =
     let a = c.args in
-    let b : Bytes a.«data».now = λ j. omega (arith, c.shared_slice_known-3-1.given j) in
+    let b : Bytes a.«data».now = λ j. search rules in
     let t = trimmed_opens a.key.now a.id.now a.«data».now a.code b _ c.decrypt_secure_response_des-opened.ensures.number (length a.out.now) c.if-refusal-ne0.false in
     let m = c.decrypt_secure_response_des-opened.ensures in
     let pl = payload_of (des_plain a.key.now a.«data».now) in

@@ -1,3 +1,4 @@
+use borrow.Author.Rules.{rules}
 use Rattle.session.proofs.Gathering.{gathering_start, gathering_step, gathering_done}
 use native.Mathlib.Omega.{arith}
 use Rattle.session.proofs.keys.gather.Goals as goal
@@ -7,7 +8,7 @@ loop-i-init c = gathering_start _ _ _ _ _
 
 pub loop-i-preserved : goal.loop-i-preserved
 loop-i-preserved c =
-    gathering_step _ _ _ _ _ _ _ _ c.loop-i.invariant (omega arith) _ _ c.work-1.given c.gather_one-next.ensures
+    gathering_step _ _ _ _ _ _ _ _ c.loop-i.invariant (omega arith) _ _ (search rules) c.gather_one-next.ensures
 
 pub returns : goal.returns
 returns c = gathering_done _ _ _ _ _ _ _ _ c.loop-i.invariant (omega arith)
