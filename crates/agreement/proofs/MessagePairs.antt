@@ -148,18 +148,18 @@ module _ (t : Message) where
         both_said r before after m =
             subst (λ (o : Outcome). Meets o r before after) (ap₂ (λ (s t : List ℕ). accepted 0 (s ++ t)) is bytes_are ∙ sym (pair_both t.A answered made (sym number_is ∙ ok'))) m
 
--- ---- the steps, by their calls: each answered r and made w of its output z, so that `piece r w` is what it wrote
+-- ---- the steps, by their calls: each answered r, and made w of its output z, so that `piece r w` is what it wrote
 
 module _ (t : Message) {r1 : Answer} {z1 w1 : List ℕ} (m1 : Meets t.A r1 z1 w1) where
   pub made_refused : {r : Answer} {out : List ℕ} → (r1.number ≡ 0 → ⊥) → Refused r1.number r → Meets (Said t) r out out
   made_refused = message_refused t r1.number _ _ m1.number
 
-  -- where reading it wrote
+  -- what reading wrote, in terms of the message alone
   pub read_wrote : {r2 : Answer} {z2 w2 : List ℕ} → Meets (t.R (piece r1 w1)) r2 z2 w2 → w2 ≡ over (t.R t.A.bytes).bytes z2
   read_wrote {r2} {z2} {w2} m2 = m2.output ∙ ap (λ (d : List ℕ). over (t.R d).bytes z2) (piece_is _ _ _ _ m1)
 
   module _ (ok1 : r1.number ≡ 0) where
-    -- k, which reading it answered, is 0
+    -- k, the number that reading answered, is 0
     pub read_goes_on : {T : Type 0} {k : ℕ} → k ≡ (t.R (piece r1 w1)).number → (k ≡ 0 → ⊥) → T
     read_goes_on = reads_always t r1.number _ m1.number ok1 (piece_is _ _ _ _ m1) _
 
@@ -169,14 +169,15 @@ module _ (t : Message) {r1 : Answer} {z1 w1 : List ℕ} (m1 : Meets t.A r1 z1 w1
           answer_refused t r1.number _ m1.number ok1 (piece_is _ _ _ _ m1) r3.number _ (piece_is _ _ _ _ m2) m3.number _ _
 
       module _ (ok3 : r3.number ≡ 0) where
-        -- k, which checking the answer gave, is 0
+        -- k, the number that checking answered, is 0
         pub checked_goes_on : {T : Type 0} {k : ℕ} → k ≡ (t.C (piece r3 w3)).number → (k ≡ 0 → ⊥) → T
         checked_goes_on =
             checks_always t r1.number _ m1.number ok1 (piece_is _ _ _ _ m1) r3.number _ (piece_is _ _ _ _ m2) m3.number ok3
             _ (piece_is _ _ _ _ m3) _
 
         -- the two pieces were joined
-        pub joined_said : {r : Answer} {before after : List ℕ} → Meets (accepted 0 (piece r1 w1 ++ piece r3 w3)) r before after → Meets (Said t) r before after
+        pub joined_said : {r : Answer} {before after : List ℕ} → Meets (accepted 0 (piece r1 w1 ++ piece r3 w3)) r before after
+            → Meets (Said t) r before after
         joined_said =
             both_said t r1.number _ m1.number ok1 (piece_is _ _ _ _ m1) r3.number _ (piece_is _ _ _ _ m2) m3.number ok3
             _ (piece_is _ _ _ _ m3) _ _ _

@@ -6,7 +6,7 @@ use Rattle.answer.proofs.Rows.{delivers_meets}
 use Rattle.agreement.proofs.Messages.{bytes}
 use Rattle.agreement.proofs.Credentials.{handed, handed_conversation}
 use Rattle.agreement.proofs.WholeTranscript.{first_refused, second_refused, third_refused, delivered}
-use Rattle.agreement.proofs.PiecewiseOutput.{end_2, part_2, short_2, fits_2, room_3, end_3, part_3, short_3, fits_3, end_all, three, three_short}
+use Rattle.agreement.proofs.PiecewiseOutput.{end_2, part_2, short_2, fits_2, room_3, end_3, end_all, three, three_short}
 use Rattle.agreement.proofs.transcript.speak.Goals as goal
 
 pub returns-then-first-ne0 : goal.returns-then-first-ne0
@@ -97,8 +97,10 @@ returns c =
     let z2 = sym second.ensures.meets.number ∙ c.if-second-ne0.false in
     let e = handed_conversation a.scheme _ _ _ _ _ (bytes _ b.card) (bytes _ b.idm) (bytes _ b.challenge_3c) (bytes _ b.random_2) c.requires
     z2 _ (replicate 16 0) refl (second.ensures.random_after c.if-second-ne0.false) a.code a.number a.id.now a.session_key.now a.payload.now in
-    let said = three (replicate 576 0) refl _ _ _ first.ensures first.auto.out _ _ _ second.ensures.meets second.auto.out _ _ _ third.ensures third.auto.out in
-    let short = three_short (replicate 576 0) refl _ _ _ first.ensures first.auto.out _ _ _ second.ensures.meets second.auto.out _ _ _ third.ensures third.auto.out in
+    let said = three (replicate 576 0) refl _ _ _ first.ensures first.auto.out _ _ _ second.ensures.meets second.auto.out
+    _ _ _ third.ensures third.auto.out in
+    let short = three_short (replicate 576 0) refl _ _ _ first.ensures first.auto.out _ _ _ second.ensures.meets second.auto.out
+    _ _ _ third.ensures third.auto.out in
     delivered a.scheme a.reader.now a.card.now a.idm.now a.challenge_3c.now a.random_1.now a.random_2.now a.code a.number
     a.id.now a.session_key.now a.payload.now (length a.out.now) z1 z2 _ e (sym third.ensures.number ∙ c.if-third-ne0.false) _ said _ _ _
     (delivers_meets _ _ _ c.deliver.ensures short)

@@ -13,7 +13,8 @@ use Rattle.agreement.proofs.MessagePairs.{piece, piece_least, piece_end, after_t
 use Rattle.agreement.proofs.transcript.talk.Goals as goal
 
 -- a response frame that was made has two bytes in front
-two : (s code number : ℕ) (id key payload z w : List ℕ) (r : Answer) → Meets (responding s key code number id payload 256) r z w → r.number ≡ 0 → 2 ≤ r.length
+two : (s code number : ℕ) (id key payload z w : List ℕ) (r : Answer) → Meets (responding s key code number id payload 256) r z w
+    → r.number ≡ 0 → 2 ≤ r.length
 two s code number id key payload z w r m e = piece_least _ _ _ _ m 2 (frame_least s key id code number 256 payload (sym m.number ∙ e))
 
 -- what is behind them, as `&w[2..n]` has it, is opened into a block z of 256 bytes
