@@ -1,6 +1,7 @@
+use lib.Dec.{lit≤}
 use Rattle.agreement.specs.inner.Said.{exchange1}
 use Rattle.agreement.proofs.Messages.{bytes, message_1}
-use Rattle.agreement.proofs.MessagePairs.{piece_end, made_refused, read_goes_on, answered_refused, checked_goes_on, joined_said}
+use Rattle.agreement.proofs.MessagePairs.{piece_end, piece_fits, two_fit, made_refused, read_goes_on, answered_refused, checked_goes_on, joined_said}
 use Rattle.agreement.proofs.transcript.exchange_1.Goals as goal
 
 pub returns-then-made-ne0 : goal.returns-then-made-ne0
@@ -44,6 +45,14 @@ returns-then-checked-ne0 c =
     let t = message_1 c.args.scheme _ _ _ _ _ (bytes _ b.card) (bytes _ b.idm) (bytes _ b.challenge_3c) (bytes _ b.random_1) c.requires.reader_value in
     checked_goes_on t c.encrypt_challenge1a-made.ensures c.if-made-ne0.false c.decrypt_challenge1a-read.ensures
     c.encrypt_challenge1b-answered.ensures c.if-answered-ne0.false c.verify_challenge1b-checked.ensures.number c.if-checked-ne0.true
+
+pub joined-requires : goal.joined-requires
+joined-requires c =
+    let sent = c.encrypt_challenge1a-made in
+    let answer = c.encrypt_challenge1b-answered in
+    let p = two_fit _ _ _ 16 (piece_fits _ _ _ _ sent.ensures sent.auto.out) (piece_fits _ _ _ _ answer.ensures answer.auto.out)
+    c.requires.out_len (lit≤ tt) in
+    record { b_in_bounds = p.0; out_len_bound = p.1 }
 
 pub returns : goal.returns
 unfolding exchange1

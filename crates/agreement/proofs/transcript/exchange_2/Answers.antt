@@ -1,7 +1,8 @@
 use mathlib.Core.Path.{sym, ◌∙◌}
+use lib.Dec.{lit≤}
 use Rattle.agreement.specs.inner.Said.{exchange2, random2_read}
 use Rattle.agreement.proofs.Messages.{bytes, message_2, read_16}
-use Rattle.agreement.proofs.MessagePairs.{piece_end, made_refused, read_wrote, read_goes_on, answered_refused, checked_goes_on, joined_said}
+use Rattle.agreement.proofs.MessagePairs.{piece_end, piece_fits, two_fit, made_refused, read_wrote, read_goes_on, answered_refused, checked_goes_on, joined_said}
 use Rattle.agreement.proofs.transcript.exchange_2.Goals as goal
 
 pub returns-then-made-ne0 : goal.returns-then-made-ne0
@@ -54,6 +55,14 @@ returns-then-checked-ne0 c =
     let m = read_16 c.args.scheme _ _ _ _ _ _ _ c.requires.random_len c.decrypt_challenge2a-read.ensures in
     checked_goes_on t c.encrypt_challenge2a-made.ensures c.if-made-ne0.false m
     c.encrypt_challenge2b-answered.ensures c.if-answered-ne0.false c.verify_challenge2b-checked.ensures.number c.if-checked-ne0.true
+
+pub joined-requires : goal.joined-requires
+joined-requires c =
+    let sent = c.encrypt_challenge2a-made in
+    let answer = c.encrypt_challenge2b-answered in
+    let p = two_fit _ _ _ 16 (piece_fits _ _ _ _ sent.ensures sent.auto.out) (piece_fits _ _ _ _ answer.ensures answer.auto.out)
+    c.requires.out_len (lit≤ tt) in
+    record { b_in_bounds = p.0; out_len_bound = p.1 }
 
 pub returns : goal.returns
 unfolding exchange2 random2_read

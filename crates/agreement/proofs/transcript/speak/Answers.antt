@@ -6,7 +6,7 @@ use Rattle.answer.proofs.Rows.{delivers_meets}
 use Rattle.agreement.proofs.Messages.{bytes}
 use Rattle.agreement.proofs.Credentials.{handed, handed_conversation}
 use Rattle.agreement.proofs.WholeTranscript.{first_refused, second_refused, third_refused, delivered}
-use Rattle.agreement.proofs.PiecewiseOutput.{end_2, part_2, short_2, fits_2, room_3, end_3, end_all, three, three_short}
+use Rattle.agreement.proofs.PiecewiseOutput.{end_2, part_2, short_2, fits_2, room_3, end_3, part_3, end_all, three, three_short}
 use Rattle.agreement.proofs.transcript.speak.Goals as goal
 
 pub returns-then-first-ne0 : goal.returns-then-first-ne0
@@ -58,13 +58,18 @@ slice_bounds-said-end-3 c =
     let second = c.exchange_2-second in
     end_3 (replicate 576 0) refl _ _ _ first.ensures first.auto.out _ _ _ second.ensures.meets second.auto.out
 
--- random 2 as the reader read it
-pub converse-third-requires-clause-random_value : goal.converse-third-requires-clause-random_value
-converse-third-requires-clause-random_value c =
+-- the reader goes by the random 2 that it read, which is the card's
+pub converse-third-requires : goal.converse-third-requires
+converse-third-requires c =
     let b = c.type_inv in
+    let first = c.exchange_1-first in
     let second = c.exchange_2-second in
-    handed c.args.scheme _ _ _ _ _ (bytes _ b.card) (bytes _ b.idm) (bytes _ b.challenge_3c) (bytes _ b.random_2) c.requires
-    (sym second.ensures.meets.number ∙ c.if-second-ne0.false) _ (replicate 16 0) refl (second.ensures.random_after c.if-second-ne0.false)
+    let z2 = sym second.ensures.meets.number ∙ c.if-second-ne0.false in
+    record {
+      random_value = handed c.args.scheme _ _ _ _ _ (bytes _ b.card) (bytes _ b.idm) (bytes _ b.challenge_3c) (bytes _ b.random_2)
+          c.requires z2 _ (replicate 16 0) refl (second.ensures.random_after c.if-second-ne0.false);
+      out_len = part_3 (replicate 576 0) refl _ _ _ first.ensures first.auto.out _ _ _ second.ensures.meets second.auto.out;
+    }
 
 pub returns-then-third-ne0 : goal.returns-then-third-ne0
 returns-then-third-ne0 c =

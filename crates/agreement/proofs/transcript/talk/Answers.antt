@@ -1,7 +1,8 @@
-use mathlib.Core.Path.{◌≡◌, sym, ◌∙◌}
+use mathlib.Core.Path.{◌≡◌}
 use mathlib.Core.List.{List}
 use Prim.Native.Nat.{ℕ, ◌-◌, ◌≤◌}
 use native.Mathlib.Omega.{arith}
+use lib.Dec.{lit≤}
 use lib.ListN.{length, take, drop}
 use Rattle.answer.specs.declared.answer.Answer.{Answer}
 use Rattle.answer.specs.Outcome.{Meets}
@@ -9,13 +10,16 @@ use Rattle.frame.specs.Scheme.{opening, responding}
 use Rattle.frame.proofs.Frames.{frame_least}
 use Rattle.agreement.specs.inner.Said.{conversation}
 use Rattle.agreement.proofs.Messages.{bytes, command}
-use Rattle.agreement.proofs.MessagePairs.{piece, piece_least, piece_end, after_two, made_refused, read_goes_on, answered_refused, checked_goes_on, joined_said}
+use Rattle.agreement.proofs.MessagePairs.{piece, piece_least, piece_end, piece_fits, two_fit, after_two, made_refused, read_goes_on, answered_refused, checked_goes_on, joined_said}
+use Rattle.agreement.proofs.WholeTranscript.{went_on}
 use Rattle.agreement.proofs.transcript.talk.Goals as goal
 
 -- a response frame that was made has two bytes in front
 two : (s code number : ℕ) (id key payload z w : List ℕ) (r : Answer) → Meets (responding s key code number id payload 256) r z w
     → r.number ≡ 0 → 2 ≤ r.length
-two s code number id key payload z w r m e = piece_least _ _ _ _ m 2 (frame_least s key id code number 256 payload (sym m.number ∙ e))
+two s code number id key payload z w r m e =
+    let made = went_on (responding s key code number id payload 256) r.number m.number e in
+    piece_least _ _ _ _ m 2 (frame_least s key id code number 256 payload made)
 
 -- what is behind them, as `&w[2..n]` has it, is opened into a block z of 256 bytes
 opens_behind : (s code : ℕ) (id key z w : List ℕ) (r : Answer) (k : ℕ) → 2 ≤ r.length → length z ≡ 256
@@ -73,6 +77,14 @@ returns-then-checked-ne0 c =
     let opens = opens_behind a.scheme a.code _ _ _ _ f.result _ has c.decrypt_response-read.auto.out c.decrypt_response-checked.ensures.number in
     checked_goes_on t c.encrypt_command-made.ensures c.if-made-ne0.false c.decrypt_response-read.ensures f.ensures c.if-answered-ne0.false
     opens c.if-checked-ne0.true
+
+pub joined-requires : goal.joined-requires
+joined-requires c =
+    let sent = c.encrypt_command-made in
+    let answer = c.build_secure_response_frame-answered in
+    let p = two_fit _ _ _ 256 (piece_fits _ _ _ _ sent.ensures sent.auto.out) (piece_fits _ _ _ _ answer.ensures answer.auto.out)
+    c.requires.out_len (lit≤ tt) in
+    record { b_in_bounds = p.0; out_len_bound = p.1 }
 
 pub returns : goal.returns
 unfolding conversation
