@@ -4,6 +4,8 @@ use Rattle.agreement.proofs.Messages.{bytes, message_1}
 use Rattle.agreement.proofs.MessagePairs.{piece_end, piece_fits, two_fit, made_refused, read_goes_on, answered_refused, checked_goes_on, joined_said}
 use Rattle.agreement.proofs.transcript.exchange_1.Goals as goal
 
+-- t is the message of the two ends; that their lists are bytes, the types of the slices say
+
 pub returns-then-made-ne0 : goal.returns-then-made-ne0
 unfolding exchange1
 returns-then-made-ne0 c =

@@ -5,6 +5,8 @@ use Rattle.agreement.proofs.Messages.{bytes, message_2, read_16}
 use Rattle.agreement.proofs.MessagePairs.{piece_end, piece_fits, two_fit, made_refused, read_wrote, read_goes_on, answered_refused, checked_goes_on, joined_said}
 use Rattle.agreement.proofs.transcript.exchange_2.Goals as goal
 
+-- t is the message of the two ends; that their lists are bytes, the types of the slices say. m is its reading, into the 16 bytes of `random`
+
 pub returns-then-made-ne0 : goal.returns-then-made-ne0
 unfolding exchange2 random2_read
 returns-then-made-ne0 c =

@@ -9,6 +9,8 @@ use Rattle.agreement.proofs.WholeTranscript.{first_refused, second_refused, thir
 use Rattle.agreement.proofs.PiecewiseOutput.{end_2, part_2, short_2, fits_2, room_3, end_3, part_3, end_all, three, three_short}
 use Rattle.agreement.proofs.transcript.speak.Goals as goal
 
+-- z1 and z2: the first pair was accepted, and the second
+
 pub returns-then-first-ne0 : goal.returns-then-first-ne0
 returns-then-first-ne0 c =
     let a = c.args in

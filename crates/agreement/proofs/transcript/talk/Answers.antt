@@ -14,6 +14,8 @@ use Rattle.agreement.proofs.MessagePairs.{piece, piece_least, piece_end, piece_f
 use Rattle.agreement.proofs.WholeTranscript.{went_on}
 use Rattle.agreement.proofs.transcript.talk.Goals as goal
 
+-- t is the message of the two ends; that their lists are bytes, the types of the slices say
+
 -- a response frame that was made has two bytes in front
 two : (s code number : ℕ) (id key payload z w : List ℕ) (r : Answer) → Meets (responding s key code number id payload 256) r z w
     → r.number ≡ 0 → 2 ≤ r.length
@@ -72,11 +74,11 @@ returns-then-checked-ne0 c =
     let a = c.args in
     let b = c.type_inv in
     let t = command a.scheme a.code a.number _ _ _ _ (bytes _ b.id) (bytes _ b.card) (bytes _ b.payload) (omega arith) (omega arith) c.requires.reader_value in
-    let f = c.build_secure_response_frame-answered in
-    let has = two _ _ _ _ _ _ _ _ _ f.ensures c.if-answered-ne0.false in
-    let opens = opens_behind a.scheme a.code _ _ _ _ f.result _ has c.decrypt_response-read.auto.out c.decrypt_response-checked.ensures.number in
-    checked_goes_on t c.encrypt_command-made.ensures c.if-made-ne0.false c.decrypt_response-read.ensures f.ensures c.if-answered-ne0.false
-    opens c.if-checked-ne0.true
+    let answer = c.build_secure_response_frame-answered in
+    let has = two _ _ _ _ _ _ _ _ _ answer.ensures c.if-answered-ne0.false in
+    let opens = opens_behind a.scheme a.code _ _ _ _ answer.result _ has c.decrypt_response-read.auto.out c.decrypt_response-checked.ensures.number in
+    checked_goes_on t c.encrypt_command-made.ensures c.if-made-ne0.false c.decrypt_response-read.ensures answer.ensures
+    c.if-answered-ne0.false opens c.if-checked-ne0.true
 
 pub joined-requires : goal.joined-requires
 joined-requires c =
