@@ -1,7 +1,9 @@
+use Prim.Native.Nat.{◌≤◌}
+use native.Mathlib.Omega.{arith}
 use lib.Dec.{lit≤}
 use Rattle.agreement.specs.inner.Said.{exchange1}
 use Rattle.agreement.proofs.Messages.{bytes, message_1}
-use Rattle.agreement.proofs.MessagePairs.{piece_end, piece_fits, two_fit, made_refused, read_goes_on, answered_refused, checked_goes_on, joined_said}
+use Rattle.agreement.proofs.MessagePairs.{piece_room, piece_end, piece_fits, two_fit, made_refused, read_goes_on, answered_refused, checked_goes_on, joined_said}
 use Rattle.agreement.proofs.transcript.exchange_1.Goals as goal
 
 -- t is the message of the two ends; that their lists are bytes, the types of the slices say
@@ -24,9 +26,12 @@ returns-then-read-ne0 c =
     let t = message_1 c.args.scheme _ _ _ _ _ (bytes _ b.card) (bytes _ b.idm) (bytes _ b.challenge_3c) (bytes _ b.random_1) c.requires.reader_value in
     read_goes_on t c.encrypt_challenge1a-made.ensures c.if-made-ne0.false c.decrypt_challenge1a-read.ensures.number c.if-read-ne0.true
 
+-- what was read has at most 16 bytes, as any block here
 pub slice_bounds-encrypt_challenge1b-end : goal.slice_bounds-encrypt_challenge1b-end
 slice_bounds-encrypt_challenge1b-end c =
-    piece_end _ _ _ _ c.decrypt_challenge1a-read.ensures c.decrypt_challenge1a-read.auto.out
+    let read = c.decrypt_challenge1a-read in
+    let room : read.result.length ≤ 16 = piece_room _ _ _ _ read.ensures read.auto.out in
+    omega arith
 
 pub returns-then-answered-ne0 : goal.returns-then-answered-ne0
 unfolding exchange1
