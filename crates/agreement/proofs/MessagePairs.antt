@@ -10,7 +10,7 @@ use lib.ListN.{length, take, drop, length-append}
 use lib.Seq.{take-nil}
 use Rattle.cipher.proofs.Numbers.{le_or_lt}
 use Rattle.answer.specs.declared.answer.Answer.{Answer}
-use Rattle.answer.specs.Outcome.{Outcome, refused, accepted, choose, Meets}
+use Rattle.answer.specs.Outcome.{Outcome, refused, accepted, choose, over, Meets}
 use Rattle.answer.proofs.Outputs.{front, copied_over}
 use Rattle.answer.proofs.Pieces.{copied_next}
 use Rattle.answer.proofs.Rows.{Refused, meets_refused, accepted_meets}
@@ -147,3 +147,37 @@ module _ (t : Message) where
         pub both_said : (r : Answer) (before after : List ℕ) → Meets (accepted 0 (x ++ v)) r before after → Meets Said r before after
         both_said r before after m =
             subst (λ (o : Outcome). Meets o r before after) (ap₂ (λ (s t : List ℕ). accepted 0 (s ++ t)) is bytes_are ∙ sym (pair_both t.A answered made (sym number_is ∙ ok'))) m
+
+-- ---- the steps, by their calls: each answered r, and made w of its output z, so that `piece r w` is what it wrote
+
+module _ (t : Message) {r1 : Answer} {z1 w1 : List ℕ} (m1 : Meets t.A r1 z1 w1) where
+  pub made_refused : {r : Answer} {out : List ℕ} → (r1.number ≡ 0 → ⊥) → Refused r1.number r → Meets (Said t) r out out
+  made_refused = message_refused t r1.number _ _ m1.number
+
+  -- what reading wrote, in terms of the message alone
+  pub read_wrote : {r2 : Answer} {z2 w2 : List ℕ} → Meets (t.R (piece r1 w1)) r2 z2 w2 → w2 ≡ over (t.R t.A.bytes).bytes z2
+  read_wrote {r2} {z2} {w2} m2 = m2.output ∙ ap (λ (d : List ℕ). over (t.R d).bytes z2) (piece_is _ _ _ _ m1)
+
+  module _ (ok1 : r1.number ≡ 0) where
+    -- k, the number that reading answered, is 0
+    pub read_goes_on : {T : Type 0} {k : ℕ} → k ≡ (t.R (piece r1 w1)).number → (k ≡ 0 → ⊥) → T
+    read_goes_on = reads_always t r1.number _ m1.number ok1 (piece_is _ _ _ _ m1) _
+
+    module _ {r2 r3 : Answer} {z2 w2 z3 w3 : List ℕ} (m2 : Meets (t.R (piece r1 w1)) r2 z2 w2) (m3 : Meets (t.B (piece r2 w2)) r3 z3 w3) where
+      pub answered_refused : {r : Answer} {out : List ℕ} → (r3.number ≡ 0 → ⊥) → Refused r3.number r → Meets (Said t) r out out
+      answered_refused =
+          answer_refused t r1.number _ m1.number ok1 (piece_is _ _ _ _ m1) r3.number _ (piece_is _ _ _ _ m2) m3.number _ _
+
+      module _ (ok3 : r3.number ≡ 0) where
+        -- k, the number that checking answered, is 0
+        pub checked_goes_on : {T : Type 0} {k : ℕ} → k ≡ (t.C (piece r3 w3)).number → (k ≡ 0 → ⊥) → T
+        checked_goes_on =
+            checks_always t r1.number _ m1.number ok1 (piece_is _ _ _ _ m1) r3.number _ (piece_is _ _ _ _ m2) m3.number ok3
+            _ (piece_is _ _ _ _ m3) _
+
+        -- the two pieces were joined
+        pub joined_said : {r : Answer} {before after : List ℕ} → Meets (accepted 0 (piece r1 w1 ++ piece r3 w3)) r before after
+            → Meets (Said t) r before after
+        joined_said =
+            both_said t r1.number _ m1.number ok1 (piece_is _ _ _ _ m1) r3.number _ (piece_is _ _ _ _ m2) m3.number ok3
+            _ (piece_is _ _ _ _ m3) _ _ _

@@ -2,7 +2,10 @@
 use mathlib.Core.Path.{◌≡◌, ap, ◌∙◌}
 use mathlib.Core.List.{List, []}
 use Prim.Native.Nat.{ℕ, ◌<◌}
-use lib.ListN.{length, drop}
+use native.Mathlib.Omega.{arith}
+use mir.Syntax.{w8}
+use mir.Val.{Fits}
+use lib.ListN.{length, drop, get_or}
 use Rattle.cipher.specs.Bytes.{Bytes}
 use Rattle.cipher.proofs.ByteLists.{Block}
 use Rattle.answer.specs.declared.answer.Answer.{Answer}
@@ -13,6 +16,10 @@ use Rattle.frame.proofs.Frames.{opens_again, frame_opens_again}
 use Rattle.session.specs.Challenge.{making_1a, reading_1a, making_1b, checking_1b, making_2a, reading_2a, making_2b, checking_2b}
 use Rattle.session.proofs.Exchanges as two
 use Rattle.agreement.proofs.MessagePairs.{Message}
+
+-- as the type of a `&[u8]` has it: each entry fits a byte
+pub bytes : (s : List ℕ) → ((i : ℕ) → Fits w8 (get_or s i 0)) → Bytes s
+bytes s h i = omega (arith, h i)
 
 -- number and bytes of an acceptance
 pub zero_of : (o : Outcome) (b : List ℕ) → o ≡ accepted 0 b → o.number ≡ 0

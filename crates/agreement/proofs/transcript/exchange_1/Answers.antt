@@ -1,75 +1,70 @@
+use Prim.Native.Nat.{◌≤◌}
 use native.Mathlib.Omega.{arith}
-use mir.Facts.{Fits-le, Fits-lit}
 use lib.Dec.{lit≤}
-use lib.ListN.{replicate}
 use Rattle.agreement.specs.inner.Said.{exchange1}
-use Rattle.agreement.proofs.Messages.{message_1}
-use Rattle.agreement.proofs.MessagePairs.{piece, piece_is, piece_room, piece_end, piece_fits, two_fit, message_refused, reads_always, answer_refused, checks_always, both_said}
+use Rattle.agreement.proofs.Messages.{bytes, message_1}
+use Rattle.agreement.proofs.MessagePairs.{piece_room, piece_end, piece_fits, two_fit, made_refused, read_goes_on, answered_refused, checked_goes_on, joined_said}
 use Rattle.agreement.proofs.transcript.exchange_1.Goals as goal
+
+-- t is the message of the two ends; that their lists are bytes, the types of the slices say
 
 pub returns-then-made-ne0 : goal.returns-then-made-ne0
 unfolding exchange1
 returns-then-made-ne0 c =
-    message_refused ((let a = c.args in message_1 a.scheme a.reader.now a.card.now a.idm.now a.challenge_3c.now a.random_1.now (λ j. omega (arith, c.shared_slice_known-2-1.given j)) (λ j. omega (arith, c.shared_slice_known-3-1.given j)) (λ j. omega (arith, c.shared_slice_known-4-1.given j)) (λ j. omega (arith, c.shared_slice_known-5-1.given j)) c.requires.reader_value)) c.encrypt_challenge1a-made.result.number c.refused.result c.args.out.now
-    c.encrypt_challenge1a-made.ensures.number c.if-made-ne0.true c.refused.ensures
+    let b = c.type_inv in
+    let t = message_1 c.args.scheme _ _ _ _ _ (bytes _ b.card) (bytes _ b.idm) (bytes _ b.challenge_3c) (bytes _ b.random_1) c.requires.reader_value in
+    made_refused t c.encrypt_challenge1a-made.ensures c.if-made-ne0.true c.refused.ensures
 
 pub slice_bounds-decrypt_challenge1a-end : goal.slice_bounds-decrypt_challenge1a-end
-slice_bounds-decrypt_challenge1a-end c = (piece_end ((let a = c.args in message_1 a.scheme a.reader.now a.card.now a.idm.now a.challenge_3c.now a.random_1.now (λ j. omega (arith, c.shared_slice_known-2-1.given j)) (λ j. omega (arith, c.shared_slice_known-3-1.given j)) (λ j. omega (arith, c.shared_slice_known-4-1.given j)) (λ j. omega (arith, c.shared_slice_known-5-1.given j)) c.requires.reader_value)).A c.encrypt_challenge1a-made.result (replicate 16 0) c.encrypt_challenge1a-made.new.out c.encrypt_challenge1a-made.ensures c.encrypt_challenge1a-made.auto.out)
+slice_bounds-decrypt_challenge1a-end c =
+    piece_end _ _ _ _ c.encrypt_challenge1a-made.ensures c.encrypt_challenge1a-made.auto.out
 
 pub returns-then-read-ne0 : goal.returns-then-read-ne0
 unfolding exchange1
 returns-then-read-ne0 c =
-    reads_always ((let a = c.args in message_1 a.scheme a.reader.now a.card.now a.idm.now a.challenge_3c.now a.random_1.now (λ j. omega (arith, c.shared_slice_known-2-1.given j)) (λ j. omega (arith, c.shared_slice_known-3-1.given j)) (λ j. omega (arith, c.shared_slice_known-4-1.given j)) (λ j. omega (arith, c.shared_slice_known-5-1.given j)) c.requires.reader_value)) c.encrypt_challenge1a-made.result.number ((piece c.encrypt_challenge1a-made.result c.encrypt_challenge1a-made.new.out)) c.encrypt_challenge1a-made.ensures.number
-    c.if-made-ne0.false ((piece_is ((let a = c.args in message_1 a.scheme a.reader.now a.card.now a.idm.now a.challenge_3c.now a.random_1.now (λ j. omega (arith, c.shared_slice_known-2-1.given j)) (λ j. omega (arith, c.shared_slice_known-3-1.given j)) (λ j. omega (arith, c.shared_slice_known-4-1.given j)) (λ j. omega (arith, c.shared_slice_known-5-1.given j)) c.requires.reader_value)).A c.encrypt_challenge1a-made.result (replicate 16 0) c.encrypt_challenge1a-made.new.out c.encrypt_challenge1a-made.ensures)) c.decrypt_challenge1a-read.result.number c.decrypt_challenge1a-read.ensures.number c.if-read-ne0.true
+    let b = c.type_inv in
+    let t = message_1 c.args.scheme _ _ _ _ _ (bytes _ b.card) (bytes _ b.idm) (bytes _ b.challenge_3c) (bytes _ b.random_1) c.requires.reader_value in
+    read_goes_on t c.encrypt_challenge1a-made.ensures c.if-made-ne0.false c.decrypt_challenge1a-read.ensures.number c.if-read-ne0.true
 
+-- what was read has at most 16 bytes, as any block here
 pub slice_bounds-encrypt_challenge1b-end : goal.slice_bounds-encrypt_challenge1b-end
 slice_bounds-encrypt_challenge1b-end c =
-    piece_end ((((let a = c.args in message_1 a.scheme a.reader.now a.card.now a.idm.now a.challenge_3c.now a.random_1.now (λ j. omega (arith, c.shared_slice_known-2-1.given j)) (λ j. omega (arith, c.shared_slice_known-3-1.given j)) (λ j. omega (arith, c.shared_slice_known-4-1.given j)) (λ j. omega (arith, c.shared_slice_known-5-1.given j)) c.requires.reader_value)).R ((piece c.encrypt_challenge1a-made.result c.encrypt_challenge1a-made.new.out)))) c.decrypt_challenge1a-read.result (replicate 16 0) c.decrypt_challenge1a-read.new.out c.decrypt_challenge1a-read.ensures
-    c.decrypt_challenge1a-read.auto.out
+    let read = c.decrypt_challenge1a-read in
+    let room : read.result.length ≤ 16 = piece_room _ _ _ _ read.ensures read.auto.out in
+    omega arith
 
 pub returns-then-answered-ne0 : goal.returns-then-answered-ne0
 unfolding exchange1
 returns-then-answered-ne0 c =
-    answer_refused ((let a = c.args in message_1 a.scheme a.reader.now a.card.now a.idm.now a.challenge_3c.now a.random_1.now (λ j. omega (arith, c.shared_slice_known-2-1.given j)) (λ j. omega (arith, c.shared_slice_known-3-1.given j)) (λ j. omega (arith, c.shared_slice_known-4-1.given j)) (λ j. omega (arith, c.shared_slice_known-5-1.given j)) c.requires.reader_value)) c.encrypt_challenge1a-made.result.number ((piece c.encrypt_challenge1a-made.result c.encrypt_challenge1a-made.new.out)) c.encrypt_challenge1a-made.ensures.number c.if-made-ne0.false ((piece_is ((let a = c.args in message_1 a.scheme a.reader.now a.card.now a.idm.now a.challenge_3c.now a.random_1.now (λ j. omega (arith, c.shared_slice_known-2-1.given j)) (λ j. omega (arith, c.shared_slice_known-3-1.given j)) (λ j. omega (arith, c.shared_slice_known-4-1.given j)) (λ j. omega (arith, c.shared_slice_known-5-1.given j)) c.requires.reader_value)).A c.encrypt_challenge1a-made.result (replicate 16 0) c.encrypt_challenge1a-made.new.out c.encrypt_challenge1a-made.ensures))
-    c.encrypt_challenge1b-answered.result.number ((piece c.decrypt_challenge1a-read.result c.decrypt_challenge1a-read.new.out)) ((piece_is ((((let a = c.args in message_1 a.scheme a.reader.now a.card.now a.idm.now a.challenge_3c.now a.random_1.now (λ j. omega (arith, c.shared_slice_known-2-1.given j)) (λ j. omega (arith, c.shared_slice_known-3-1.given j)) (λ j. omega (arith, c.shared_slice_known-4-1.given j)) (λ j. omega (arith, c.shared_slice_known-5-1.given j)) c.requires.reader_value)).R ((piece c.encrypt_challenge1a-made.result c.encrypt_challenge1a-made.new.out)))) c.decrypt_challenge1a-read.result (replicate 16 0) c.decrypt_challenge1a-read.new.out c.decrypt_challenge1a-read.ensures)) c.encrypt_challenge1b-answered.ensures.number c.refused-then-answered-ne0.result
-    c.args.out.now c.if-answered-ne0.true c.refused-then-answered-ne0.ensures
-
-pub overflow_cast-m : goal.overflow_cast-m
-overflow_cast-m c =
-    Fits-le
-    (piece_room ((((let a = c.args in message_1 a.scheme a.reader.now a.card.now a.idm.now a.challenge_3c.now a.random_1.now (λ j. omega (arith, c.shared_slice_known-2-1.given j)) (λ j. omega (arith, c.shared_slice_known-3-1.given j)) (λ j. omega (arith, c.shared_slice_known-4-1.given j)) (λ j. omega (arith, c.shared_slice_known-5-1.given j)) c.requires.reader_value)).B ((piece c.decrypt_challenge1a-read.result c.decrypt_challenge1a-read.new.out)))) c.encrypt_challenge1b-answered.result (replicate 16 0) c.encrypt_challenge1b-answered.new.out
-    c.encrypt_challenge1b-answered.ensures c.encrypt_challenge1b-answered.auto.out) (Fits-lit {n = 16} tt)
+    let b = c.type_inv in
+    let t = message_1 c.args.scheme _ _ _ _ _ (bytes _ b.card) (bytes _ b.idm) (bytes _ b.challenge_3c) (bytes _ b.random_1) c.requires.reader_value in
+    answered_refused t c.encrypt_challenge1a-made.ensures c.if-made-ne0.false c.decrypt_challenge1a-read.ensures
+    c.encrypt_challenge1b-answered.ensures c.if-answered-ne0.true c.refused-then-answered-ne0.ensures
 
 pub slice_bounds-verify_challenge1b-end : goal.slice_bounds-verify_challenge1b-end
-slice_bounds-verify_challenge1b-end c = (piece_end ((((let a = c.args in message_1 a.scheme a.reader.now a.card.now a.idm.now a.challenge_3c.now a.random_1.now (λ j. omega (arith, c.shared_slice_known-2-1.given j)) (λ j. omega (arith, c.shared_slice_known-3-1.given j)) (λ j. omega (arith, c.shared_slice_known-4-1.given j)) (λ j. omega (arith, c.shared_slice_known-5-1.given j)) c.requires.reader_value)).B ((piece c.decrypt_challenge1a-read.result c.decrypt_challenge1a-read.new.out)))) c.encrypt_challenge1b-answered.result (replicate 16 0) c.encrypt_challenge1b-answered.new.out c.encrypt_challenge1b-answered.ensures c.encrypt_challenge1b-answered.auto.out)
+slice_bounds-verify_challenge1b-end c =
+    piece_end _ _ _ _ c.encrypt_challenge1b-answered.ensures c.encrypt_challenge1b-answered.auto.out
 
 pub returns-then-checked-ne0 : goal.returns-then-checked-ne0
 unfolding exchange1
 returns-then-checked-ne0 c =
-    checks_always ((let a = c.args in message_1 a.scheme a.reader.now a.card.now a.idm.now a.challenge_3c.now a.random_1.now (λ j. omega (arith, c.shared_slice_known-2-1.given j)) (λ j. omega (arith, c.shared_slice_known-3-1.given j)) (λ j. omega (arith, c.shared_slice_known-4-1.given j)) (λ j. omega (arith, c.shared_slice_known-5-1.given j)) c.requires.reader_value)) c.encrypt_challenge1a-made.result.number ((piece c.encrypt_challenge1a-made.result c.encrypt_challenge1a-made.new.out)) c.encrypt_challenge1a-made.ensures.number
-    c.if-made-ne0.false ((piece_is ((let a = c.args in message_1 a.scheme a.reader.now a.card.now a.idm.now a.challenge_3c.now a.random_1.now (λ j. omega (arith, c.shared_slice_known-2-1.given j)) (λ j. omega (arith, c.shared_slice_known-3-1.given j)) (λ j. omega (arith, c.shared_slice_known-4-1.given j)) (λ j. omega (arith, c.shared_slice_known-5-1.given j)) c.requires.reader_value)).A c.encrypt_challenge1a-made.result (replicate 16 0) c.encrypt_challenge1a-made.new.out c.encrypt_challenge1a-made.ensures)) c.encrypt_challenge1b-answered.result.number ((piece c.decrypt_challenge1a-read.result c.decrypt_challenge1a-read.new.out)) ((piece_is ((((let a = c.args in message_1 a.scheme a.reader.now a.card.now a.idm.now a.challenge_3c.now a.random_1.now (λ j. omega (arith, c.shared_slice_known-2-1.given j)) (λ j. omega (arith, c.shared_slice_known-3-1.given j)) (λ j. omega (arith, c.shared_slice_known-4-1.given j)) (λ j. omega (arith, c.shared_slice_known-5-1.given j)) c.requires.reader_value)).R ((piece c.encrypt_challenge1a-made.result c.encrypt_challenge1a-made.new.out)))) c.decrypt_challenge1a-read.result (replicate 16 0) c.decrypt_challenge1a-read.new.out c.decrypt_challenge1a-read.ensures)) c.encrypt_challenge1b-answered.ensures.number c.if-answered-ne0.false
-    ((piece c.encrypt_challenge1b-answered.result c.encrypt_challenge1b-answered.new.out)) ((piece_is ((((let a = c.args in message_1 a.scheme a.reader.now a.card.now a.idm.now a.challenge_3c.now a.random_1.now (λ j. omega (arith, c.shared_slice_known-2-1.given j)) (λ j. omega (arith, c.shared_slice_known-3-1.given j)) (λ j. omega (arith, c.shared_slice_known-4-1.given j)) (λ j. omega (arith, c.shared_slice_known-5-1.given j)) c.requires.reader_value)).B ((piece c.decrypt_challenge1a-read.result c.decrypt_challenge1a-read.new.out)))) c.encrypt_challenge1b-answered.result (replicate 16 0) c.encrypt_challenge1b-answered.new.out c.encrypt_challenge1b-answered.ensures))
-    c.verify_challenge1b-checked.result.number c.verify_challenge1b-checked.ensures.number c.if-checked-ne0.true
-
-pub slice_bounds-joined-end : goal.slice_bounds-joined-end
-slice_bounds-joined-end c =
-    (piece_end ((let a = c.args in message_1 a.scheme a.reader.now a.card.now a.idm.now a.challenge_3c.now a.random_1.now (λ j. omega (arith, c.shared_slice_known-2-1.given j)) (λ j. omega (arith, c.shared_slice_known-3-1.given j)) (λ j. omega (arith, c.shared_slice_known-4-1.given j)) (λ j. omega (arith, c.shared_slice_known-5-1.given j)) c.requires.reader_value)).A c.encrypt_challenge1a-made.result (replicate 16 0) c.encrypt_challenge1a-made.new.out c.encrypt_challenge1a-made.ensures c.encrypt_challenge1a-made.auto.out)
-
-pub slice_bounds-joined-end-2 : goal.slice_bounds-joined-end-2
-slice_bounds-joined-end-2 c = (piece_end ((((let a = c.args in message_1 a.scheme a.reader.now a.card.now a.idm.now a.challenge_3c.now a.random_1.now (λ j. omega (arith, c.shared_slice_known-2-1.given j)) (λ j. omega (arith, c.shared_slice_known-3-1.given j)) (λ j. omega (arith, c.shared_slice_known-4-1.given j)) (λ j. omega (arith, c.shared_slice_known-5-1.given j)) c.requires.reader_value)).B ((piece c.decrypt_challenge1a-read.result c.decrypt_challenge1a-read.new.out)))) c.encrypt_challenge1b-answered.result (replicate 16 0) c.encrypt_challenge1b-answered.new.out c.encrypt_challenge1b-answered.ensures c.encrypt_challenge1b-answered.auto.out)
+    let b = c.type_inv in
+    let t = message_1 c.args.scheme _ _ _ _ _ (bytes _ b.card) (bytes _ b.idm) (bytes _ b.challenge_3c) (bytes _ b.random_1) c.requires.reader_value in
+    checked_goes_on t c.encrypt_challenge1a-made.ensures c.if-made-ne0.false c.decrypt_challenge1a-read.ensures
+    c.encrypt_challenge1b-answered.ensures c.if-answered-ne0.false c.verify_challenge1b-checked.ensures.number c.if-checked-ne0.true
 
 pub joined-requires : goal.joined-requires
 joined-requires c =
-    let p = two_fit ((piece c.encrypt_challenge1a-made.result c.encrypt_challenge1a-made.new.out)) ((piece c.encrypt_challenge1b-answered.result c.encrypt_challenge1b-answered.new.out)) c.args.out.now 16
-    (piece_fits ((let a = c.args in message_1 a.scheme a.reader.now a.card.now a.idm.now a.challenge_3c.now a.random_1.now (λ j. omega (arith, c.shared_slice_known-2-1.given j)) (λ j. omega (arith, c.shared_slice_known-3-1.given j)) (λ j. omega (arith, c.shared_slice_known-4-1.given j)) (λ j. omega (arith, c.shared_slice_known-5-1.given j)) c.requires.reader_value)).A c.encrypt_challenge1a-made.result (replicate 16 0) c.encrypt_challenge1a-made.new.out
-    c.encrypt_challenge1a-made.ensures c.encrypt_challenge1a-made.auto.out) (piece_fits ((((let a = c.args in message_1 a.scheme a.reader.now a.card.now a.idm.now a.challenge_3c.now a.random_1.now (λ j. omega (arith, c.shared_slice_known-2-1.given j)) (λ j. omega (arith, c.shared_slice_known-3-1.given j)) (λ j. omega (arith, c.shared_slice_known-4-1.given j)) (λ j. omega (arith, c.shared_slice_known-5-1.given j)) c.requires.reader_value)).B ((piece c.decrypt_challenge1a-read.result c.decrypt_challenge1a-read.new.out)))) c.encrypt_challenge1b-answered.result
-    (replicate 16 0) c.encrypt_challenge1b-answered.new.out c.encrypt_challenge1b-answered.ensures c.encrypt_challenge1b-answered.auto.out)
+    let sent = c.encrypt_challenge1a-made in
+    let answer = c.encrypt_challenge1b-answered in
+    let p = two_fit _ _ _ 16 (piece_fits _ _ _ _ sent.ensures sent.auto.out) (piece_fits _ _ _ _ answer.ensures answer.auto.out)
     c.requires.out_len (lit≤ tt) in
     record { b_in_bounds = p.0; out_len_bound = p.1 }
 
 pub returns : goal.returns
 unfolding exchange1
 returns c =
-    both_said ((let a = c.args in message_1 a.scheme a.reader.now a.card.now a.idm.now a.challenge_3c.now a.random_1.now (λ j. omega (arith, c.shared_slice_known-2-1.given j)) (λ j. omega (arith, c.shared_slice_known-3-1.given j)) (λ j. omega (arith, c.shared_slice_known-4-1.given j)) (λ j. omega (arith, c.shared_slice_known-5-1.given j)) c.requires.reader_value)) c.encrypt_challenge1a-made.result.number ((piece c.encrypt_challenge1a-made.result c.encrypt_challenge1a-made.new.out)) c.encrypt_challenge1a-made.ensures.number c.if-made-ne0.false ((piece_is ((let a = c.args in message_1 a.scheme a.reader.now a.card.now a.idm.now a.challenge_3c.now a.random_1.now (λ j. omega (arith, c.shared_slice_known-2-1.given j)) (λ j. omega (arith, c.shared_slice_known-3-1.given j)) (λ j. omega (arith, c.shared_slice_known-4-1.given j)) (λ j. omega (arith, c.shared_slice_known-5-1.given j)) c.requires.reader_value)).A c.encrypt_challenge1a-made.result (replicate 16 0) c.encrypt_challenge1a-made.new.out c.encrypt_challenge1a-made.ensures))
-    c.encrypt_challenge1b-answered.result.number ((piece c.decrypt_challenge1a-read.result c.decrypt_challenge1a-read.new.out)) ((piece_is ((((let a = c.args in message_1 a.scheme a.reader.now a.card.now a.idm.now a.challenge_3c.now a.random_1.now (λ j. omega (arith, c.shared_slice_known-2-1.given j)) (λ j. omega (arith, c.shared_slice_known-3-1.given j)) (λ j. omega (arith, c.shared_slice_known-4-1.given j)) (λ j. omega (arith, c.shared_slice_known-5-1.given j)) c.requires.reader_value)).R ((piece c.encrypt_challenge1a-made.result c.encrypt_challenge1a-made.new.out)))) c.decrypt_challenge1a-read.result (replicate 16 0) c.decrypt_challenge1a-read.new.out c.decrypt_challenge1a-read.ensures)) c.encrypt_challenge1b-answered.ensures.number c.if-answered-ne0.false ((piece c.encrypt_challenge1b-answered.result c.encrypt_challenge1b-answered.new.out)) ((piece_is ((((let a = c.args in message_1 a.scheme a.reader.now a.card.now a.idm.now a.challenge_3c.now a.random_1.now (λ j. omega (arith, c.shared_slice_known-2-1.given j)) (λ j. omega (arith, c.shared_slice_known-3-1.given j)) (λ j. omega (arith, c.shared_slice_known-4-1.given j)) (λ j. omega (arith, c.shared_slice_known-5-1.given j)) c.requires.reader_value)).B ((piece c.decrypt_challenge1a-read.result c.decrypt_challenge1a-read.new.out)))) c.encrypt_challenge1b-answered.result (replicate 16 0) c.encrypt_challenge1b-answered.new.out c.encrypt_challenge1b-answered.ensures))
-    c.joined.result c.args.out.now c.joined.new.out c.joined.ensures
+    let b = c.type_inv in
+    let t = message_1 c.args.scheme _ _ _ _ _ (bytes _ b.card) (bytes _ b.idm) (bytes _ b.challenge_3c) (bytes _ b.random_1) c.requires.reader_value in
+    joined_said t c.encrypt_challenge1a-made.ensures c.if-made-ne0.false c.decrypt_challenge1a-read.ensures
+    c.encrypt_challenge1b-answered.ensures c.if-answered-ne0.false c.joined.ensures

@@ -1,94 +1,98 @@
-use mathlib.Core.Path.{refl, sym, ap₂, ◌∙◌}
+use mathlib.Core.Path.{◌≡◌}
 use mathlib.Core.List.{List}
-use Prim.Native.Nat.{ℕ, ◌-◌}
+use Prim.Native.Nat.{ℕ, ◌-◌, ◌≤◌}
 use native.Mathlib.Omega.{arith}
-use mir.Facts.{Fits-le, Fits-lit}
 use lib.Dec.{lit≤}
-use lib.ListN.{length, take, drop, replicate}
-use Rattle.frame.specs.Scheme.{opening}
+use lib.ListN.{length, take, drop}
+use Rattle.answer.specs.declared.answer.Answer.{Answer}
+use Rattle.answer.specs.Outcome.{Meets}
+use Rattle.frame.specs.Scheme.{opening, responding}
 use Rattle.frame.proofs.Frames.{frame_least}
 use Rattle.agreement.specs.inner.Said.{conversation}
-use Rattle.agreement.proofs.Messages.{command}
-use Rattle.agreement.proofs.MessagePairs.{piece, piece_is, piece_least, piece_room, piece_end, piece_fits, two_fit, after_two, message_refused, reads_always, answer_refused, checks_always, both_said}
+use Rattle.agreement.proofs.Messages.{bytes, command}
+use Rattle.agreement.proofs.MessagePairs.{piece, piece_least, piece_end, piece_fits, two_fit, after_two, made_refused, read_goes_on, answered_refused, checked_goes_on, joined_said}
 use Rattle.agreement.proofs.WholeTranscript.{went_on}
 use Rattle.agreement.proofs.transcript.talk.Goals as goal
+
+-- t is the message of the two ends; that their lists are bytes, the types of the slices say
+
+-- a response frame that was made has two bytes in front
+two : (s code number : ℕ) (id key payload z w : List ℕ) (r : Answer) → Meets (responding s key code number id payload 256) r z w
+    → r.number ≡ 0 → 2 ≤ r.length
+two s code number id key payload z w r m e =
+    let made = went_on (responding s key code number id payload 256) r.number m.number e in
+    piece_least _ _ _ _ m 2 (frame_least s key id code number 256 payload made)
+
+-- what is behind them, as `&w[2..n]` has it, is opened into a block z of 256 bytes
+opens_behind : (s code : ℕ) (id key z w : List ℕ) (r : Answer) (k : ℕ) → 2 ≤ r.length → length z ≡ 256
+    → k ≡ (opening s key code id (take (r.length - 2) (drop 2 w)) (length z)).number → k ≡ (opening s key code id (drop 2 (piece r w)) 256).number
+opens_behind s code id key z w r k h l e = rw (after_two r w h, l) at e
 
 pub returns-then-made-ne0 : goal.returns-then-made-ne0
 unfolding conversation
 returns-then-made-ne0 c =
-    message_refused ((let a = c.args in command a.scheme a.code a.number a.id.now a.reader.now a.card.now a.payload.now (λ j. omega (arith, c.shared_slice_known-1.given j)) (λ j. omega (arith, c.shared_slice_known-3-1.given j)) (λ j. omega (arith, c.shared_slice_known-4-1.given j)) (omega (arith, c.ranges)) (omega (arith, c.ranges)) c.requires.reader_value)) c.encrypt_command-made.result.number c.refused.result c.args.out.now
-    c.encrypt_command-made.ensures.number c.if-made-ne0.true c.refused.ensures
+    let a = c.args in
+    let b = c.type_inv in
+    let t = command a.scheme a.code a.number _ _ _ _ (bytes _ b.id) (bytes _ b.card) (bytes _ b.payload) (omega arith) (omega arith) c.requires.reader_value in
+    made_refused t c.encrypt_command-made.ensures c.if-made-ne0.true c.refused.ensures
 
 pub slice_bounds-decrypt_response-end : goal.slice_bounds-decrypt_response-end
-slice_bounds-decrypt_response-end c = (piece_end ((let a = c.args in command a.scheme a.code a.number a.id.now a.reader.now a.card.now a.payload.now (λ j. omega (arith, c.shared_slice_known-1.given j)) (λ j. omega (arith, c.shared_slice_known-3-1.given j)) (λ j. omega (arith, c.shared_slice_known-4-1.given j)) (omega (arith, c.ranges)) (omega (arith, c.ranges)) c.requires.reader_value)).A c.encrypt_command-made.result (replicate 256 0) c.encrypt_command-made.new.out c.encrypt_command-made.ensures c.encrypt_command-made.auto.out)
+slice_bounds-decrypt_response-end c = piece_end _ _ _ _ c.encrypt_command-made.ensures c.encrypt_command-made.auto.out
 
 pub returns-then-read-ne0 : goal.returns-then-read-ne0
 unfolding conversation
 returns-then-read-ne0 c =
-    reads_always ((let a = c.args in command a.scheme a.code a.number a.id.now a.reader.now a.card.now a.payload.now (λ j. omega (arith, c.shared_slice_known-1.given j)) (λ j. omega (arith, c.shared_slice_known-3-1.given j)) (λ j. omega (arith, c.shared_slice_known-4-1.given j)) (omega (arith, c.ranges)) (omega (arith, c.ranges)) c.requires.reader_value)) c.encrypt_command-made.result.number ((piece c.encrypt_command-made.result c.encrypt_command-made.new.out)) c.encrypt_command-made.ensures.number c.if-made-ne0.false
-    ((piece_is ((let a = c.args in command a.scheme a.code a.number a.id.now a.reader.now a.card.now a.payload.now (λ j. omega (arith, c.shared_slice_known-1.given j)) (λ j. omega (arith, c.shared_slice_known-3-1.given j)) (λ j. omega (arith, c.shared_slice_known-4-1.given j)) (omega (arith, c.ranges)) (omega (arith, c.ranges)) c.requires.reader_value)).A c.encrypt_command-made.result (replicate 256 0) c.encrypt_command-made.new.out c.encrypt_command-made.ensures)) c.decrypt_response-read.result.number c.decrypt_response-read.ensures.number c.if-read-ne0.true
+    let a = c.args in
+    let b = c.type_inv in
+    let t = command a.scheme a.code a.number _ _ _ _ (bytes _ b.id) (bytes _ b.card) (bytes _ b.payload) (omega arith) (omega arith) c.requires.reader_value in
+    read_goes_on t c.encrypt_command-made.ensures c.if-made-ne0.false c.decrypt_response-read.ensures.number c.if-read-ne0.true
 
 pub returns-then-answered-ne0 : goal.returns-then-answered-ne0
 unfolding conversation
 returns-then-answered-ne0 c =
-    answer_refused ((let a = c.args in command a.scheme a.code a.number a.id.now a.reader.now a.card.now a.payload.now (λ j. omega (arith, c.shared_slice_known-1.given j)) (λ j. omega (arith, c.shared_slice_known-3-1.given j)) (λ j. omega (arith, c.shared_slice_known-4-1.given j)) (omega (arith, c.ranges)) (omega (arith, c.ranges)) c.requires.reader_value)) c.encrypt_command-made.result.number ((piece c.encrypt_command-made.result c.encrypt_command-made.new.out)) c.encrypt_command-made.ensures.number c.if-made-ne0.false ((piece_is ((let a = c.args in command a.scheme a.code a.number a.id.now a.reader.now a.card.now a.payload.now (λ j. omega (arith, c.shared_slice_known-1.given j)) (λ j. omega (arith, c.shared_slice_known-3-1.given j)) (λ j. omega (arith, c.shared_slice_known-4-1.given j)) (omega (arith, c.ranges)) (omega (arith, c.ranges)) c.requires.reader_value)).A c.encrypt_command-made.result (replicate 256 0) c.encrypt_command-made.new.out c.encrypt_command-made.ensures))
-    c.build_secure_response_frame-answered.result.number (((let a = c.args in command a.scheme a.code a.number a.id.now a.reader.now a.card.now a.payload.now (λ j. omega (arith, c.shared_slice_known-1.given j)) (λ j. omega (arith, c.shared_slice_known-3-1.given j)) (λ j. omega (arith, c.shared_slice_known-4-1.given j)) (omega (arith, c.ranges)) (omega (arith, c.ranges)) c.requires.reader_value)).R ((piece c.encrypt_command-made.result c.encrypt_command-made.new.out))).bytes refl c.build_secure_response_frame-answered.ensures.number
-    c.refused-then-answered-ne0.result c.args.out.now c.if-answered-ne0.true c.refused-then-answered-ne0.ensures
-
-pub overflow_cast-m : goal.overflow_cast-m
-overflow_cast-m c =
-    Fits-le
-    (piece_room ((((let a = c.args in command a.scheme a.code a.number a.id.now a.reader.now a.card.now a.payload.now (λ j. omega (arith, c.shared_slice_known-1.given j)) (λ j. omega (arith, c.shared_slice_known-3-1.given j)) (λ j. omega (arith, c.shared_slice_known-4-1.given j)) (omega (arith, c.ranges)) (omega (arith, c.ranges)) c.requires.reader_value)).B (((let a = c.args in command a.scheme a.code a.number a.id.now a.reader.now a.card.now a.payload.now (λ j. omega (arith, c.shared_slice_known-1.given j)) (λ j. omega (arith, c.shared_slice_known-3-1.given j)) (λ j. omega (arith, c.shared_slice_known-4-1.given j)) (omega (arith, c.ranges)) (omega (arith, c.ranges)) c.requires.reader_value)).R ((piece c.encrypt_command-made.result c.encrypt_command-made.new.out))).bytes)) c.build_secure_response_frame-answered.result (replicate 256 0) c.build_secure_response_frame-answered.new.out
-    c.build_secure_response_frame-answered.ensures c.build_secure_response_frame-answered.auto.out) (Fits-lit {n = 256} tt)
+    let a = c.args in
+    let b = c.type_inv in
+    let t = command a.scheme a.code a.number _ _ _ _ (bytes _ b.id) (bytes _ b.card) (bytes _ b.payload) (omega arith) (omega arith) c.requires.reader_value in
+    answered_refused t c.encrypt_command-made.ensures c.if-made-ne0.false c.decrypt_response-read.ensures
+    c.build_secure_response_frame-answered.ensures c.if-answered-ne0.true c.refused-then-answered-ne0.ensures
 
 pub slice_bounds-decrypt_response-count-2 : goal.slice_bounds-decrypt_response-count-2
-slice_bounds-decrypt_response-count-2 c = (let a = c.args in piece_least ((((let a = c.args in command a.scheme a.code a.number a.id.now a.reader.now a.card.now a.payload.now (λ j. omega (arith, c.shared_slice_known-1.given j)) (λ j. omega (arith, c.shared_slice_known-3-1.given j)) (λ j. omega (arith, c.shared_slice_known-4-1.given j)) (omega (arith, c.ranges)) (omega (arith, c.ranges)) c.requires.reader_value)).B (((let a = c.args in command a.scheme a.code a.number a.id.now a.reader.now a.card.now a.payload.now (λ j. omega (arith, c.shared_slice_known-1.given j)) (λ j. omega (arith, c.shared_slice_known-3-1.given j)) (λ j. omega (arith, c.shared_slice_known-4-1.given j)) (omega (arith, c.ranges)) (omega (arith, c.ranges)) c.requires.reader_value)).R ((piece c.encrypt_command-made.result c.encrypt_command-made.new.out))).bytes)) c.build_secure_response_frame-answered.result (replicate 256 0) c.build_secure_response_frame-answered.new.out c.build_secure_response_frame-answered.ensures 2 (frame_least a.scheme a.card.now a.id.now a.code a.number 256 a.payload.now (went_on ((((let a = c.args in command a.scheme a.code a.number a.id.now a.reader.now a.card.now a.payload.now (λ j. omega (arith, c.shared_slice_known-1.given j)) (λ j. omega (arith, c.shared_slice_known-3-1.given j)) (λ j. omega (arith, c.shared_slice_known-4-1.given j)) (omega (arith, c.ranges)) (omega (arith, c.ranges)) c.requires.reader_value)).B (((let a = c.args in command a.scheme a.code a.number a.id.now a.reader.now a.card.now a.payload.now (λ j. omega (arith, c.shared_slice_known-1.given j)) (λ j. omega (arith, c.shared_slice_known-3-1.given j)) (λ j. omega (arith, c.shared_slice_known-4-1.given j)) (omega (arith, c.ranges)) (omega (arith, c.ranges)) c.requires.reader_value)).R ((piece c.encrypt_command-made.result c.encrypt_command-made.new.out))).bytes)) c.build_secure_response_frame-answered.result.number c.build_secure_response_frame-answered.ensures.number c.if-answered-ne0.false)))
+slice_bounds-decrypt_response-count-2 c =
+    two _ _ _ _ _ _ _ _ _ c.build_secure_response_frame-answered.ensures c.if-answered-ne0.false
 
 pub slice_bounds-decrypt_response-start-2 : goal.slice_bounds-decrypt_response-start-2
-slice_bounds-decrypt_response-start-2 c = (let a = c.args in piece_least ((((let a = c.args in command a.scheme a.code a.number a.id.now a.reader.now a.card.now a.payload.now (λ j. omega (arith, c.shared_slice_known-1.given j)) (λ j. omega (arith, c.shared_slice_known-3-1.given j)) (λ j. omega (arith, c.shared_slice_known-4-1.given j)) (omega (arith, c.ranges)) (omega (arith, c.ranges)) c.requires.reader_value)).B (((let a = c.args in command a.scheme a.code a.number a.id.now a.reader.now a.card.now a.payload.now (λ j. omega (arith, c.shared_slice_known-1.given j)) (λ j. omega (arith, c.shared_slice_known-3-1.given j)) (λ j. omega (arith, c.shared_slice_known-4-1.given j)) (omega (arith, c.ranges)) (omega (arith, c.ranges)) c.requires.reader_value)).R ((piece c.encrypt_command-made.result c.encrypt_command-made.new.out))).bytes)) c.build_secure_response_frame-answered.result (replicate 256 0) c.build_secure_response_frame-answered.new.out c.build_secure_response_frame-answered.ensures 2 (frame_least a.scheme a.card.now a.id.now a.code a.number 256 a.payload.now (went_on ((((let a = c.args in command a.scheme a.code a.number a.id.now a.reader.now a.card.now a.payload.now (λ j. omega (arith, c.shared_slice_known-1.given j)) (λ j. omega (arith, c.shared_slice_known-3-1.given j)) (λ j. omega (arith, c.shared_slice_known-4-1.given j)) (omega (arith, c.ranges)) (omega (arith, c.ranges)) c.requires.reader_value)).B (((let a = c.args in command a.scheme a.code a.number a.id.now a.reader.now a.card.now a.payload.now (λ j. omega (arith, c.shared_slice_known-1.given j)) (λ j. omega (arith, c.shared_slice_known-3-1.given j)) (λ j. omega (arith, c.shared_slice_known-4-1.given j)) (omega (arith, c.ranges)) (omega (arith, c.ranges)) c.requires.reader_value)).R ((piece c.encrypt_command-made.result c.encrypt_command-made.new.out))).bytes)) c.build_secure_response_frame-answered.result.number c.build_secure_response_frame-answered.ensures.number c.if-answered-ne0.false)))
+slice_bounds-decrypt_response-start-2 c =
+    two _ _ _ _ _ _ _ _ _ c.build_secure_response_frame-answered.ensures c.if-answered-ne0.false
 
 pub slice_bounds-decrypt_response-end-3 : goal.slice_bounds-decrypt_response-end-3
-slice_bounds-decrypt_response-end-3 c = (piece_end ((((let a = c.args in command a.scheme a.code a.number a.id.now a.reader.now a.card.now a.payload.now (λ j. omega (arith, c.shared_slice_known-1.given j)) (λ j. omega (arith, c.shared_slice_known-3-1.given j)) (λ j. omega (arith, c.shared_slice_known-4-1.given j)) (omega (arith, c.ranges)) (omega (arith, c.ranges)) c.requires.reader_value)).B (((let a = c.args in command a.scheme a.code a.number a.id.now a.reader.now a.card.now a.payload.now (λ j. omega (arith, c.shared_slice_known-1.given j)) (λ j. omega (arith, c.shared_slice_known-3-1.given j)) (λ j. omega (arith, c.shared_slice_known-4-1.given j)) (omega (arith, c.ranges)) (omega (arith, c.ranges)) c.requires.reader_value)).R ((piece c.encrypt_command-made.result c.encrypt_command-made.new.out))).bytes)) c.build_secure_response_frame-answered.result (replicate 256 0) c.build_secure_response_frame-answered.new.out c.build_secure_response_frame-answered.ensures c.build_secure_response_frame-answered.auto.out)
-
-pub slice_bounds-decrypt_response-end-4 : goal.slice_bounds-decrypt_response-end-4
-slice_bounds-decrypt_response-end-4 c =
-    sym {b = 256} c.decrypt_response-read.auto.out
+slice_bounds-decrypt_response-end-3 c =
+    piece_end _ _ _ _ c.build_secure_response_frame-answered.ensures c.build_secure_response_frame-answered.auto.out
 
 pub returns-then-checked-ne0 : goal.returns-then-checked-ne0
 unfolding conversation
 returns-then-checked-ne0 c =
     let a = c.args in
-    let n = c.build_secure_response_frame-answered.result.length in
-    let w = c.build_secure_response_frame-answered.new.out in
-    checks_always ((let a = c.args in command a.scheme a.code a.number a.id.now a.reader.now a.card.now a.payload.now (λ j. omega (arith, c.shared_slice_known-1.given j)) (λ j. omega (arith, c.shared_slice_known-3-1.given j)) (λ j. omega (arith, c.shared_slice_known-4-1.given j)) (omega (arith, c.ranges)) (omega (arith, c.ranges)) c.requires.reader_value)) c.encrypt_command-made.result.number ((piece c.encrypt_command-made.result c.encrypt_command-made.new.out)) c.encrypt_command-made.ensures.number c.if-made-ne0.false ((piece_is ((let a = c.args in command a.scheme a.code a.number a.id.now a.reader.now a.card.now a.payload.now (λ j. omega (arith, c.shared_slice_known-1.given j)) (λ j. omega (arith, c.shared_slice_known-3-1.given j)) (λ j. omega (arith, c.shared_slice_known-4-1.given j)) (omega (arith, c.ranges)) (omega (arith, c.ranges)) c.requires.reader_value)).A c.encrypt_command-made.result (replicate 256 0) c.encrypt_command-made.new.out c.encrypt_command-made.ensures))
-    c.build_secure_response_frame-answered.result.number (((let a = c.args in command a.scheme a.code a.number a.id.now a.reader.now a.card.now a.payload.now (λ j. omega (arith, c.shared_slice_known-1.given j)) (λ j. omega (arith, c.shared_slice_known-3-1.given j)) (λ j. omega (arith, c.shared_slice_known-4-1.given j)) (omega (arith, c.ranges)) (omega (arith, c.ranges)) c.requires.reader_value)).R ((piece c.encrypt_command-made.result c.encrypt_command-made.new.out))).bytes refl c.build_secure_response_frame-answered.ensures.number c.if-answered-ne0.false
-    ((piece c.build_secure_response_frame-answered.result c.build_secure_response_frame-answered.new.out)) ((piece_is ((((let a = c.args in command a.scheme a.code a.number a.id.now a.reader.now a.card.now a.payload.now (λ j. omega (arith, c.shared_slice_known-1.given j)) (λ j. omega (arith, c.shared_slice_known-3-1.given j)) (λ j. omega (arith, c.shared_slice_known-4-1.given j)) (omega (arith, c.ranges)) (omega (arith, c.ranges)) c.requires.reader_value)).B (((let a = c.args in command a.scheme a.code a.number a.id.now a.reader.now a.card.now a.payload.now (λ j. omega (arith, c.shared_slice_known-1.given j)) (λ j. omega (arith, c.shared_slice_known-3-1.given j)) (λ j. omega (arith, c.shared_slice_known-4-1.given j)) (omega (arith, c.ranges)) (omega (arith, c.ranges)) c.requires.reader_value)).R ((piece c.encrypt_command-made.result c.encrypt_command-made.new.out))).bytes)) c.build_secure_response_frame-answered.result (replicate 256 0) c.build_secure_response_frame-answered.new.out c.build_secure_response_frame-answered.ensures)) c.decrypt_response-checked.result.number
-    (◌∙◌ {b = (opening a.scheme a.reader.now a.code a.id.now (take (n - 2) (drop 2 w))
-    (length c.decrypt_response-read.new.out)).number} c.decrypt_response-checked.ensures.number
-    (ap₂ (λ (d : List ℕ) (n : ℕ). (opening a.scheme a.reader.now a.code a.id.now d n).number)
-    (after_two c.build_secure_response_frame-answered.result w ((let a = c.args in piece_least ((((let a = c.args in command a.scheme a.code a.number a.id.now a.reader.now a.card.now a.payload.now (λ j. omega (arith, c.shared_slice_known-1.given j)) (λ j. omega (arith, c.shared_slice_known-3-1.given j)) (λ j. omega (arith, c.shared_slice_known-4-1.given j)) (omega (arith, c.ranges)) (omega (arith, c.ranges)) c.requires.reader_value)).B (((let a = c.args in command a.scheme a.code a.number a.id.now a.reader.now a.card.now a.payload.now (λ j. omega (arith, c.shared_slice_known-1.given j)) (λ j. omega (arith, c.shared_slice_known-3-1.given j)) (λ j. omega (arith, c.shared_slice_known-4-1.given j)) (omega (arith, c.ranges)) (omega (arith, c.ranges)) c.requires.reader_value)).R ((piece c.encrypt_command-made.result c.encrypt_command-made.new.out))).bytes)) c.build_secure_response_frame-answered.result (replicate 256 0) c.build_secure_response_frame-answered.new.out c.build_secure_response_frame-answered.ensures 2 (frame_least a.scheme a.card.now a.id.now a.code a.number 256 a.payload.now (went_on ((((let a = c.args in command a.scheme a.code a.number a.id.now a.reader.now a.card.now a.payload.now (λ j. omega (arith, c.shared_slice_known-1.given j)) (λ j. omega (arith, c.shared_slice_known-3-1.given j)) (λ j. omega (arith, c.shared_slice_known-4-1.given j)) (omega (arith, c.ranges)) (omega (arith, c.ranges)) c.requires.reader_value)).B (((let a = c.args in command a.scheme a.code a.number a.id.now a.reader.now a.card.now a.payload.now (λ j. omega (arith, c.shared_slice_known-1.given j)) (λ j. omega (arith, c.shared_slice_known-3-1.given j)) (λ j. omega (arith, c.shared_slice_known-4-1.given j)) (omega (arith, c.ranges)) (omega (arith, c.ranges)) c.requires.reader_value)).R ((piece c.encrypt_command-made.result c.encrypt_command-made.new.out))).bytes)) c.build_secure_response_frame-answered.result.number c.build_secure_response_frame-answered.ensures.number c.if-answered-ne0.false))))) c.decrypt_response-read.auto.out))
-    c.if-checked-ne0.true
-
-pub slice_bounds-joined-end : goal.slice_bounds-joined-end
-slice_bounds-joined-end c =
-    (piece_end ((let a = c.args in command a.scheme a.code a.number a.id.now a.reader.now a.card.now a.payload.now (λ j. omega (arith, c.shared_slice_known-1.given j)) (λ j. omega (arith, c.shared_slice_known-3-1.given j)) (λ j. omega (arith, c.shared_slice_known-4-1.given j)) (omega (arith, c.ranges)) (omega (arith, c.ranges)) c.requires.reader_value)).A c.encrypt_command-made.result (replicate 256 0) c.encrypt_command-made.new.out c.encrypt_command-made.ensures c.encrypt_command-made.auto.out)
-
-pub slice_bounds-joined-end-2 : goal.slice_bounds-joined-end-2
-slice_bounds-joined-end-2 c = (piece_end ((((let a = c.args in command a.scheme a.code a.number a.id.now a.reader.now a.card.now a.payload.now (λ j. omega (arith, c.shared_slice_known-1.given j)) (λ j. omega (arith, c.shared_slice_known-3-1.given j)) (λ j. omega (arith, c.shared_slice_known-4-1.given j)) (omega (arith, c.ranges)) (omega (arith, c.ranges)) c.requires.reader_value)).B (((let a = c.args in command a.scheme a.code a.number a.id.now a.reader.now a.card.now a.payload.now (λ j. omega (arith, c.shared_slice_known-1.given j)) (λ j. omega (arith, c.shared_slice_known-3-1.given j)) (λ j. omega (arith, c.shared_slice_known-4-1.given j)) (omega (arith, c.ranges)) (omega (arith, c.ranges)) c.requires.reader_value)).R ((piece c.encrypt_command-made.result c.encrypt_command-made.new.out))).bytes)) c.build_secure_response_frame-answered.result (replicate 256 0) c.build_secure_response_frame-answered.new.out c.build_secure_response_frame-answered.ensures c.build_secure_response_frame-answered.auto.out)
+    let b = c.type_inv in
+    let t = command a.scheme a.code a.number _ _ _ _ (bytes _ b.id) (bytes _ b.card) (bytes _ b.payload) (omega arith) (omega arith) c.requires.reader_value in
+    let answer = c.build_secure_response_frame-answered in
+    let has = two _ _ _ _ _ _ _ _ _ answer.ensures c.if-answered-ne0.false in
+    let opens = opens_behind a.scheme a.code _ _ _ _ answer.result _ has c.decrypt_response-read.auto.out c.decrypt_response-checked.ensures.number in
+    checked_goes_on t c.encrypt_command-made.ensures c.if-made-ne0.false c.decrypt_response-read.ensures answer.ensures
+    c.if-answered-ne0.false opens c.if-checked-ne0.true
 
 pub joined-requires : goal.joined-requires
 joined-requires c =
-    let p = two_fit ((piece c.encrypt_command-made.result c.encrypt_command-made.new.out)) ((piece c.build_secure_response_frame-answered.result c.build_secure_response_frame-answered.new.out)) c.args.out.now 256
-    (piece_fits ((let a = c.args in command a.scheme a.code a.number a.id.now a.reader.now a.card.now a.payload.now (λ j. omega (arith, c.shared_slice_known-1.given j)) (λ j. omega (arith, c.shared_slice_known-3-1.given j)) (λ j. omega (arith, c.shared_slice_known-4-1.given j)) (omega (arith, c.ranges)) (omega (arith, c.ranges)) c.requires.reader_value)).A c.encrypt_command-made.result (replicate 256 0) c.encrypt_command-made.new.out
-    c.encrypt_command-made.ensures c.encrypt_command-made.auto.out) (piece_fits ((((let a = c.args in command a.scheme a.code a.number a.id.now a.reader.now a.card.now a.payload.now (λ j. omega (arith, c.shared_slice_known-1.given j)) (λ j. omega (arith, c.shared_slice_known-3-1.given j)) (λ j. omega (arith, c.shared_slice_known-4-1.given j)) (omega (arith, c.ranges)) (omega (arith, c.ranges)) c.requires.reader_value)).B (((let a = c.args in command a.scheme a.code a.number a.id.now a.reader.now a.card.now a.payload.now (λ j. omega (arith, c.shared_slice_known-1.given j)) (λ j. omega (arith, c.shared_slice_known-3-1.given j)) (λ j. omega (arith, c.shared_slice_known-4-1.given j)) (omega (arith, c.ranges)) (omega (arith, c.ranges)) c.requires.reader_value)).R ((piece c.encrypt_command-made.result c.encrypt_command-made.new.out))).bytes)) c.build_secure_response_frame-answered.result
-    (replicate 256 0) c.build_secure_response_frame-answered.new.out c.build_secure_response_frame-answered.ensures
-    c.build_secure_response_frame-answered.auto.out) c.requires.out_len (lit≤ tt) in
+    let sent = c.encrypt_command-made in
+    let answer = c.build_secure_response_frame-answered in
+    let p = two_fit _ _ _ 256 (piece_fits _ _ _ _ sent.ensures sent.auto.out) (piece_fits _ _ _ _ answer.ensures answer.auto.out)
+    c.requires.out_len (lit≤ tt) in
     record { b_in_bounds = p.0; out_len_bound = p.1 }
 
 pub returns : goal.returns
 unfolding conversation
 returns c =
-    both_said ((let a = c.args in command a.scheme a.code a.number a.id.now a.reader.now a.card.now a.payload.now (λ j. omega (arith, c.shared_slice_known-1.given j)) (λ j. omega (arith, c.shared_slice_known-3-1.given j)) (λ j. omega (arith, c.shared_slice_known-4-1.given j)) (omega (arith, c.ranges)) (omega (arith, c.ranges)) c.requires.reader_value)) c.encrypt_command-made.result.number ((piece c.encrypt_command-made.result c.encrypt_command-made.new.out)) c.encrypt_command-made.ensures.number c.if-made-ne0.false ((piece_is ((let a = c.args in command a.scheme a.code a.number a.id.now a.reader.now a.card.now a.payload.now (λ j. omega (arith, c.shared_slice_known-1.given j)) (λ j. omega (arith, c.shared_slice_known-3-1.given j)) (λ j. omega (arith, c.shared_slice_known-4-1.given j)) (omega (arith, c.ranges)) (omega (arith, c.ranges)) c.requires.reader_value)).A c.encrypt_command-made.result (replicate 256 0) c.encrypt_command-made.new.out c.encrypt_command-made.ensures))
-    c.build_secure_response_frame-answered.result.number (((let a = c.args in command a.scheme a.code a.number a.id.now a.reader.now a.card.now a.payload.now (λ j. omega (arith, c.shared_slice_known-1.given j)) (λ j. omega (arith, c.shared_slice_known-3-1.given j)) (λ j. omega (arith, c.shared_slice_known-4-1.given j)) (omega (arith, c.ranges)) (omega (arith, c.ranges)) c.requires.reader_value)).R ((piece c.encrypt_command-made.result c.encrypt_command-made.new.out))).bytes refl c.build_secure_response_frame-answered.ensures.number c.if-answered-ne0.false
-    ((piece c.build_secure_response_frame-answered.result c.build_secure_response_frame-answered.new.out)) ((piece_is ((((let a = c.args in command a.scheme a.code a.number a.id.now a.reader.now a.card.now a.payload.now (λ j. omega (arith, c.shared_slice_known-1.given j)) (λ j. omega (arith, c.shared_slice_known-3-1.given j)) (λ j. omega (arith, c.shared_slice_known-4-1.given j)) (omega (arith, c.ranges)) (omega (arith, c.ranges)) c.requires.reader_value)).B (((let a = c.args in command a.scheme a.code a.number a.id.now a.reader.now a.card.now a.payload.now (λ j. omega (arith, c.shared_slice_known-1.given j)) (λ j. omega (arith, c.shared_slice_known-3-1.given j)) (λ j. omega (arith, c.shared_slice_known-4-1.given j)) (omega (arith, c.ranges)) (omega (arith, c.ranges)) c.requires.reader_value)).R ((piece c.encrypt_command-made.result c.encrypt_command-made.new.out))).bytes)) c.build_secure_response_frame-answered.result (replicate 256 0) c.build_secure_response_frame-answered.new.out c.build_secure_response_frame-answered.ensures))
-    c.joined.result c.args.out.now c.joined.new.out c.joined.ensures
+    let a = c.args in
+    let b = c.type_inv in
+    let t = command a.scheme a.code a.number _ _ _ _ (bytes _ b.id) (bytes _ b.card) (bytes _ b.payload) (omega arith) (omega arith) c.requires.reader_value in
+    joined_said t c.encrypt_command-made.ensures c.if-made-ne0.false c.decrypt_response-read.ensures
+    c.build_secure_response_frame-answered.ensures c.if-answered-ne0.false c.joined.ensures
