@@ -44,7 +44,8 @@ def read(top):
     """The repository's files: path, text. None is the text of a file that no rule reads."""
     tree = {}
     for folder, names, here in os.walk(top):
-        names[:] = [n for n in names if n not in ("target", "out", ".git", "__pycache__")]
+        made = os.path.relpath(folder, top).count(os.sep) == 1 and os.path.relpath(folder, top).startswith("crates" + os.sep)
+        names[:] = [n for n in names if n not in ("target", ".git", "__pycache__") and not (made and n == "out")]
         for name in here:
             full = os.path.join(folder, name)
             path = os.path.relpath(full, top).replace(os.sep, "/")

@@ -13,6 +13,7 @@ import tempfile
 TOP = os.path.normpath(os.path.join(os.path.dirname(os.path.abspath(__file__)), ".."))
 SAID = "rt: must-fail small/%s.edit: "
 REFUSED = "refused, as it must be: "
+UNPROVED = REFUSED + "note: src/lib.rt:15:1: it is not proved that what the function ensures holds when it returns "
 GONE = "refused, as it must be (only because a proof file names what the edit took away, so this says little of the contract: change a value and keep the names): "
 LIMIT = "refused, as it must be (only by a limit of the prover, which gave no verdict, so this says less of the contract: choose a change that it refuses sooner): "
 WALKED = "use mathlib.Core.Path.{refl}\nuse prog.Wp.{Heap, Calls, WpFn}\nuse denote.Triple.Walked.{walk_meets}\n\nwalk : ℕ\nwalk = 0\n"
@@ -23,8 +24,9 @@ EDITS = [
      REFUSED + "./proofs/echo/Answers.antt:7:13: error: `returns`: as printed, the two types differ only where one has `echoed c.args.x` (expected)"),
     ("no_search", True, None,
      REFUSED + "./proofs/echo/Answers.antt:11:13: error: `returns`: `grind`: the goal does not follow. The hypotheses hold, and the goal fails at"),
-    ("made_by_itself", True, None,
-     REFUSED + "note: src/lib.rt:15:1: it is not proved that what the function ensures holds when it returns (`returns`)"),
+    ("made_by_itself", True, None, UNPROVED + "(`returns`)"),
+    ("renamed_goal", False, None, UNPROVED + "(`returns-then-x-gt16`)"),
+    ("unsolved", False, None, REFUSED + "./proofs/echo/Answers.antt:7:13: error: `returns`: replace that `_` with the term it stands for"),
     ("a_law", True, None, REFUSED + "proofs/Laws.antt:4:1: error: `law`: `omega`: no proof was found."),
     ("no_goal", False, None,
      GONE + "./proofs/echo/Answers.antt:6:16: error: `sum-requires`: `goal.sum-requires`: module `Rattle.small.proofs.echo.Goals` has no"),
@@ -46,6 +48,9 @@ EDITS = [
     ("same", False, None, "NOT REFUSED: the crate is still proved with this edit (one that means the same as before cannot be refused: remove it)"),
     ("not_told_of", False, None, None),
 ]
+# the goal that the edit renamed has an answer under its old name
+RENAMED = ("./proofs/echo/Answers.antt:6:27: error: `returns-then-x-gt15`: `goal.returns-then-x-gt15`: module `Rattle.small.proofs.echo.Goals` has no `returns-then-x-gt15`\n"
+           "note: src/lib.rt:15:1: it is not proved that what the function ensures holds when it returns (`returns-then-x-gt16`)\n")
 # is it refused at a fact?; what the prover says of an edit in full: the first error counts, and a note only where there is none
 LOGS = [
     (True, "fn small::echo: proved\nnote: ./src/lib.rt:15:1: it is not proved that the sum fits its type\nlogic=not-proved\n"),
@@ -98,11 +103,17 @@ def refusals(top):
     tool = [sys.executable, os.path.join(TOP, "tools", "refusals")]
     for name, fact, proof, said in EDITS:
         folder = os.path.join(top, name)
-        write(os.path.join(folder, "crates", "small", "must-fail", name + ".edit"), "")
+        write(os.path.join(folder, "crates", "small", "must-fail", name + ".edit"), "# a value\nfile: src/lib.rt\nold:     x + 5\nnew:     x + 6\n")
+        write(os.path.join(folder, "crates", "small", "src", "lib.rt"), "    x + 5\n")
+        write(os.path.join(folder, "crates.txt"), "small:\n")
+        # what stands for rt, where the edit is tried once more
+        write(os.path.join(folder, "bin", "rt"), "#!/bin/sh\ncat \"$LOG\"\nexit 1\n", 0o755)
+        write(os.path.join(folder, "whole"), RENAMED if name == "renamed_goal" else (said or "").replace(REFUSED, "") + "\n")
         if proof:
             write(os.path.join(folder, "crates", "small", "proofs", "walked", "Proof.antt"), proof)
         write(os.path.join(folder, "log"), "74 rt: small proved\n" + ("80 " + SAID % name + said if said else "") + "\n")
-        status, said = run(tool + ["log"], folder)
+        path = os.path.join(folder, "bin") + os.pathsep + os.environ["PATH"]
+        status, said = run(tool + ["log"], folder, PATH=path, LOG=os.path.join(folder, "whole"))
         if status != (0 if fact else 1) or ("small/%s: not at a fact" % name in said) == fact:
             wrong.append("refusals: %s: status %d: %s" % (name, status, said.strip()))
     # in full: the edit is made in a copy, where a stand-in for rt prints the log

@@ -292,7 +292,7 @@ fn half_key(pc2: &[u32], m: usize, c: u32) -> u32
     p ^ (q ^ (r ^ s))
 }
 
-// The entry of PC2 for the m-th seven bits, which are the low ones of x.
+// The entry of PC2_ENTRIES for the m-th seven bits, which are the low ones of x.
 fn pick7(pc2: &[u32], m: usize, x: u32) -> u32
     requires pc2_table { Pc2Table pc2.now }
     requires m_bound { m < 8 }
