@@ -88,3 +88,12 @@ module _ (key id sealed : List ℕ) (code : ℕ) where
         × (trimmed_opening key code id sealed room ≡ delivering (number_of (des_plain key sealed)) (trim (payload_of (des_plain key sealed))) room)
         × (length (payload_of (des_plain key sealed)) ≤ 256)
     trimmed_opens room z = let h = all_passed z in (opened bytes h, trimmed room ∙ decide_false before16 _ h, short_payload bytes h)
+
+    -- what was opened stands inside a block of 256 bytes
+    pub opened_fits : (n : ℕ) → n ≡ length (des_opening key code id sealed 256).bytes → k ≡ 0 → n ≤ 256
+    unfolding accepted
+    opened_fits n l z =
+        let t = trimmed_opens 0 z in
+        let m = l ∙ ap (λ (o : Outcome). length o.bytes) t.0 in
+        let s = t.2 in
+        omega arith

@@ -29,8 +29,9 @@ slice_bounds-work-end c =
     omega arith
 
 pub slice_bounds-accept_authentication2-end : goal.slice_bounds-accept_authentication2-end
-slice_bounds-accept_authentication2-end c = sym (length-take-le _ _ ((let h = (auth2_open_passes _ _ _ c.guard_authentication2_open-refusal.ensures c.if-refusal-ne0.false).short in
-    omega arith)))
+slice_bounds-accept_authentication2-end c =
+    let h = (auth2_open_passes _ _ _ c.guard_authentication2_open-refusal.ensures c.if-refusal-ne0.false).short in
+    sym (length-take-le _ _ (omega arith))
 
 pub accept_authentication2-requires : goal.accept_authentication2-requires
 accept_authentication2-requires c =

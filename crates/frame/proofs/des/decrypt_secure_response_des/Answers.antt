@@ -28,8 +28,9 @@ slice_bounds-work-end c =
     omega arith
 
 pub slice_bounds-accept_des-end : goal.slice_bounds-accept_des-end
-slice_bounds-accept_des-end c = sym (length-take-le _ _ ((let h = (open_passes _ _ _ _ c.guard_open_des-refusal.ensures c.if-refusal-ne0.false).short in
-    omega arith)))
+slice_bounds-accept_des-end c =
+    let h = (open_passes _ _ _ _ c.guard_open_des-refusal.ensures c.if-refusal-ne0.false).short in
+    sym (length-take-le _ _ (omega arith))
 
 pub accept_des-requires : goal.accept_des-requires
 accept_des-requires c =

@@ -11,7 +11,7 @@ use Rattle.frame.specs.DesFrame.{des_plain, payload_of}
 use Rattle.frame.specs.Trimmed.{trim}
 use Rattle.answer.proofs.Rows.{refused_meets, delivers_meets}
 use Rattle.answer.proofs.Outputs.{front}
-use Rattle.frame.proofs.Trims.{trim_no_longer, trimmed_refuses, trimmed_opens}
+use Rattle.frame.proofs.Trims.{trim_no_longer, trimmed_refuses, trimmed_opens, opened_fits}
 use Rattle.frame.proofs.des.decrypt_secure_response_trimmed_des.Goals as goal
 
 pub returns-then-refusal-ne0 : goal.returns-then-refusal-ne0
@@ -21,23 +21,18 @@ returns-then-refusal-ne0 c =
     rw (trimmed_refuses a.key.now a.id.now a.«data».now a.code b _ c.decrypt_secure_response_des-opened.ensures.number (length a.out.now) c.if-refusal-ne0.true) (refused_meets _ _ a.out.now c.refused.ensures)
 
 pub slice_bounds-work-end : goal.slice_bounds-work-end
-unfolding accepted
 slice_bounds-work-end c =
     let a = c.args in
-    let b : Bytes a.«data».now = λ j. search rules in
-    let t = trimmed_opens a.key.now a.id.now a.«data».now a.code b _ c.decrypt_secure_response_des-opened.ensures.number (length a.out.now) c.if-refusal-ne0.false in
-    let n = c.decrypt_secure_response_des-opened.ensures.length_is ∙ ap (λ (o : Outcome). length o.bytes) t.0 in
-    let s = t.2 in
+    let m = c.decrypt_secure_response_des-opened.ensures in
+    let h = opened_fits a.key.now a.id.now a.«data».now a.code (λ j. search rules) _ m.number _ m.length_is c.if-refusal-ne0.false in
     omega arith
 
 pub slice_bounds-trim_payload-end : goal.slice_bounds-trim_payload-end
-unfolding accepted
-slice_bounds-trim_payload-end c = sym (length-take-le _ _ ((let a = c.args in
-    let b : Bytes a.«data».now = λ j. search rules in
-    let t = trimmed_opens a.key.now a.id.now a.«data».now a.code b _ c.decrypt_secure_response_des-opened.ensures.number (length a.out.now) c.if-refusal-ne0.false in
-    let n = c.decrypt_secure_response_des-opened.ensures.length_is ∙ ap (λ (o : Outcome). length o.bytes) t.0 in
-    let s = t.2 in
-    omega arith)))
+slice_bounds-trim_payload-end c =
+    let a = c.args in
+    let m = c.decrypt_secure_response_des-opened.ensures in
+    let h = opened_fits a.key.now a.id.now a.«data».now a.code (λ j. search rules) _ m.number _ m.length_is c.if-refusal-ne0.false in
+    sym (length-take-le _ _ (omega arith))
 
 pub returns : goal.returns
 unfolding accepted

@@ -12,7 +12,7 @@ use Rattle.frame.proofs.v2_aes.decrypt_in_work_block.Goals as goal
 pub slice_bounds-work-end-2 : goal.slice_bounds-work-end-2
 slice_bounds-work-end-2 c =
     let w = c.copy.new.dst in
-    rw (length_front w c.apply_aes128_ofb_parts.new.first _ c.apply_aes128_ofb_parts.auto.first) ((search rules))
+    rw (length_front w c.apply_aes128_ofb_parts.new.first _ c.apply_aes128_ofb_parts.auto.first) (search rules)
 
 pub accept_aes-requires : goal.accept_aes-requires
 accept_aes-requires c =

@@ -15,7 +15,7 @@ pub slice_bounds-apply_aes128_ofb_parts-end : goal.slice_bounds-apply_aes128_ofb
 unfolding aes_size
 slice_bounds-apply_aes128_ofb_parts-end c =
     let n = length c.args.payload.now in
-    reaches c.copy.new.dst c.copy-2.new.dst 2 (n + 2 - 2) (n + 2) c.copy-2.auto.dst ((omega arith))
+    reaches c.copy.new.dst c.copy-2.new.dst 2 (n + 2 - 2) (n + 2) c.copy-2.auto.dst (omega arith)
 
 pub slice_bounds-copy-end-4 : goal.slice_bounds-copy-end-4
 unfolding aes_size

@@ -15,6 +15,5 @@ slice_bounds-eight-end c =
 pub returns : goal.returns
 returns c =
     let a = c.args in
-    rw (chain_is a.gathered.now a.middle _ _ _ (c.eight-system.ensures.1 (sym ((let g = c.args.gathered.now in
-    let h : 8 ≤ length g = omega arith in
-    sym (length-take-le 8 g h))))) c.encrypt_des_under_each-group.ensures c.encrypt_des_under_each-user.ensures) at c.deliver.ensures
+    let h : 8 ≤ length a.gathered.now = omega arith in
+    rw (chain_is a.gathered.now a.middle _ _ _ (c.eight-system.ensures.1 (length-take-le 8 a.gathered.now h)) c.encrypt_des_under_each-group.ensures c.encrypt_des_under_each-user.ensures) at c.deliver.ensures

@@ -26,9 +26,10 @@ slice_bounds-area_nodes-end c =
     omega arith
 
 pub slice_bounds-derive_for-end : goal.slice_bounds-derive_for-end
-slice_bounds-derive_for-end c = sym (length-take-le _ _ ((let h = (guard_passed _ _ _ _ _ _ c.guard_derive-refusal.ensures c.if-refusal-ne0.false).few_areas in
+slice_bounds-derive_for-end c =
+    let h = (guard_passed _ _ _ _ _ _ c.guard_derive-refusal.ensures c.if-refusal-ne0.false).few_areas in
     let e = c.parse_nodes-a.ensures.0 in
-    omega arith)))
+    sym (length-take-le _ _ (omega arith))
 
 pub slice_bounds-service_nodes-end : goal.slice_bounds-service_nodes-end
 slice_bounds-service_nodes-end c =
@@ -37,9 +38,10 @@ slice_bounds-service_nodes-end c =
     omega arith
 
 pub slice_bounds-derive_for-end-2 : goal.slice_bounds-derive_for-end-2
-slice_bounds-derive_for-end-2 c = sym (length-take-le _ _ ((let h = (guard_passed _ _ _ _ _ _ c.guard_derive-refusal.ensures c.if-refusal-ne0.false).few_services in
+slice_bounds-derive_for-end-2 c =
+    let h = (guard_passed _ _ _ _ _ _ c.guard_derive-refusal.ensures c.if-refusal-ne0.false).few_services in
     let e = c.parse_nodes-s.ensures.0 in
-    omega arith)))
+    sym (length-take-le _ _ (omega arith))
 
 pub derive_for-requires : goal.derive_for-requires
 derive_for-requires c =

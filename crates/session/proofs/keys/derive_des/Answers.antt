@@ -12,7 +12,7 @@ returns-then-refusal-ne0 c =
     des_refused _ _ _ _ _ c.keep_bearing-n.ensures.2 _ c.guard_des-refusal.ensures _ _ _ c.if-refusal-ne0.true c.refused.ensures
 
 pub slice_bounds-derive_des_bearing-end : goal.slice_bounds-derive_des_bearing-end
-slice_bounds-derive_des_bearing-end c = sym (length-take-le _ _ ((search rules)))
+slice_bounds-derive_des_bearing-end c = sym (length-take-le _ _ (search rules))
 
 pub derive_des_bearing-requires : goal.derive_des_bearing-requires
 derive_des_bearing-requires c =

@@ -14,7 +14,7 @@ returns-then-refusal-ne0 c =
     bearing_refused _ _ _ _ _ s _ _ _ c.if-refusal-ne0.true c.refused.ensures
 
 pub slice_bounds-chain_des-end : goal.slice_bounds-chain_des-end
-slice_bounds-chain_des-end c = sym (length-take-le _ _ ((search rules)))
+slice_bounds-chain_des-end c = sym (length-take-le _ _ (search rules))
 
 pub chain_des-requires : goal.chain_des-requires
 chain_des-requires c =
