@@ -7,10 +7,9 @@ use native.Mathlib.Omega.{arith}
 use borrow.Author.Tests.{eqb-true, ltb-true, lt-ltb, le-ltb}
 use lib.Dec.{eqb, ltb}
 use lib.ListN.{length}
-use Rattle.answer.specs.Outcome.{Outcome, Row, Meets, refused, accepted, choose, decide, first_of, over}
+use Rattle.answer.specs.Outcome.{Outcome, Row, Meets, Answer, answer_number, answer_length, answer_transaction, refused, accepted, choose, decide, first_of, over}
 use Rattle.answer.specs.Tests.{isnt, either, both}
 use Rattle.answer.specs.Delivery.{delivering, Delivers}
-use Rattle.answer.specs.declared.answer.Answer.{Answer}
 use Rattle.answer.proofs.Equality.{both_true}
 
 -- ---- tests
@@ -79,15 +78,15 @@ first_passes (r ∷ rs) k n e z =
 
 -- ---- answers
 
--- what `refused` of src/answer.rt ensures
+-- an answer that is the refusal k
 abbrev pub Refused : ℕ → Answer → Type 0
-Refused k r = (r.number ≡ k) × (r.length ≡ 0) × (r.transaction_number ≡ 0)
+Refused k r = (answer_number r ≡ k) × (answer_length r ≡ 0) × (answer_transaction r ≡ 0)
 
 pub refused_meets : (k : ℕ) (r : Answer) (out : List ℕ) → Refused k r → Meets (refused k) r out out
 unfolding refused over
 refused_meets k r out h = record { number = h.0; length_is = h.1; transaction = h.2; output = refl }
 
-pub accepted_meets : (n : ℕ) (b : List ℕ) (r : Answer) (before after : List ℕ) → r.number ≡ 0 → r.length ≡ length b → r.transaction_number ≡ n → after ≡ over b before → Meets (accepted n b) r before after
+pub accepted_meets : (n : ℕ) (b : List ℕ) (r : Answer) (before after : List ℕ) → answer_number r ≡ 0 → answer_length r ≡ length b → answer_transaction r ≡ n → after ≡ over b before → Meets (accepted n b) r before after
 unfolding accepted
 accepted_meets n b r before after h l t w = record { number = h; length_is = l; transaction = t; output = w }
 
@@ -95,7 +94,7 @@ accepted_meets n b r before after h l t w = record { number = h; length_is = l; 
 pub meets_refused : (o : Outcome) (k : ℕ) (r : Answer) (out : List ℕ) → o ≡ refused k → Refused k r → Meets o r out out
 meets_refused o k r out e h = rw e (refused_meets k r out h)
 
-pub meets_accepted : (o : Outcome) (n : ℕ) (b : List ℕ) (r : Answer) (before after : List ℕ) → o ≡ accepted n b → r.number ≡ 0 → r.length ≡ length b → r.transaction_number ≡ n → after ≡ over b before
+pub meets_accepted : (o : Outcome) (n : ℕ) (b : List ℕ) (r : Answer) (before after : List ℕ) → o ≡ accepted n b → answer_number r ≡ 0 → answer_length r ≡ length b → answer_transaction r ≡ n → after ≡ over b before
     → Meets o r before after
 meets_accepted o n b r before after e h l t w = rw e (accepted_meets n b r before after h l t w)
 
@@ -122,7 +121,7 @@ pub refused_delivers : (k : ℕ) (r : Answer) (out : List ℕ) → Refused k r �
 unfolding refused over
 refused_delivers k r out h = record { number = h.0; length_is = h.1; transaction = h.2; output = refl }
 
-pub accepted_delivers : (n : ℕ) (b : List ℕ) (r : Answer) (before after : List ℕ) → r.number ≡ 0 → r.length ≡ length b % 65536 → r.transaction_number ≡ n → after ≡ over b before → Delivers (accepted n b) r before after
+pub accepted_delivers : (n : ℕ) (b : List ℕ) (r : Answer) (before after : List ℕ) → answer_number r ≡ 0 → answer_length r ≡ length b % 65536 → answer_transaction r ≡ n → after ≡ over b before → Delivers (accepted n b) r before after
 unfolding accepted
 accepted_delivers n b r before after h l t w = record { number = h; length_is = l; transaction = t; output = w }
 

@@ -1,7 +1,9 @@
 -- Document 01, Turned-down calls: what a call answers and writes. Its numbers are those of that table (docs/NUMBERS.md); 0 is acceptance.
 -- Assumes nothing.
-use Rattle.std.specs.Prelude.{ℕ, ◌≡◌, Bool, true, false, List, [], ◌∷◌, ◌++◌, length, drop}
-use Rattle.answer.specs.declared.answer.Answer.{Answer}
+use Rattle.std.specs.Prelude.{ℕ, ◌≡◌, Bool, true, false, List, [], ◌∷◌, ◌++◌, length, drop, Result, Ok, Err}
+use Rattle.answer.specs.declared.answer.Accepted.{Accepted}
+use Rattle.answer.specs.declared.refusal.Refusal.{Refusal}
+use Rattle.answer.specs.Refusal.{refusal_number}
 
 -- `transaction` is the transaction number of what was opened, else 0; `bytes` go over the front of the output
 pub record Outcome : Type 0 where
@@ -42,9 +44,25 @@ first_of (r ∷ rs) = choose r.holds r.number (first_of rs)
 unfoldable pub over : List ℕ → List ℕ → List ℕ
 over b o = b ++ drop (length b) o
 
+-- what a call answers: its number, 0 for an acceptance, and its values, which are 0 with a refusal
+abbrev pub Answer : Type 0
+Answer = Result Accepted Refusal
+
+abbrev pub answer_number : Answer → ℕ
+answer_number (Ok a) = 0
+answer_number (Err e) = refusal_number e
+
+abbrev pub answer_length : Answer → ℕ
+answer_length (Ok a) = a.length
+answer_length (Err e) = 0
+
+abbrev pub answer_transaction : Answer → ℕ
+answer_transaction (Ok a) = a.transaction_number
+answer_transaction (Err e) = 0
+
 -- an answer r, and an output that was `before` and is `after`, are those of the outcome o
 pub record Meets (o : Outcome) (r : Answer) (before after : List ℕ) : Type 0 where
-  pub number : r.number ≡ o.number
-  pub length_is : r.length ≡ length o.bytes
-  pub transaction : r.transaction_number ≡ o.transaction
+  pub number : answer_number r ≡ o.number
+  pub length_is : answer_length r ≡ length o.bytes
+  pub transaction : answer_transaction r ≡ o.transaction
   pub output : after ≡ over o.bytes before

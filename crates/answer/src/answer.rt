@@ -1,43 +1,36 @@
-// What every operation answers.
+// What every operation answers: an acceptance with its values, or a refusal.
 ghost use Rattle.std.specs.Prelude.{◌≡◌};
 
-// number: 0, or that of the refusal; length: how many bytes were written, or the size that a forecast gives; transaction_number: that of what was
-// opened, or a session's after its step. A refusal has 0 in both other fields.
-#[derive(Clone, Copy)]
-pub struct Answer {
-    pub number: u8,
+use crate::refusal::Refusal;
+
+// length: how many bytes were written, or the size that a forecast gives; transaction_number: that of what was opened, or a session's after its
+// step. What an operation does not have is 0.
+#[derive(Clone, Copy, Debug, PartialEq, Eq)]
+pub struct Accepted {
     pub length: u16,
     pub transaction_number: u16,
 }
 
-pub fn refused(number: u8) -> Answer
-    ensures { (result.number ≡ number) × (result.length ≡ 0) × (result.transaction_number ≡ 0) }
-{
-    Answer {
-        number,
-        length: 0,
-        transaction_number: 0,
-    }
-}
+pub type Answer = Result<Accepted, Refusal>;
 
-// An acceptance with a length.
-pub fn sized(length: u16) -> Answer
-    ensures { (result.number ≡ 0) × (result.length ≡ length) × (result.transaction_number ≡ 0) }
-{
-    Answer {
-        number: 0,
-        length,
-        transaction_number: 0,
+impl Accepted {
+    // An acceptance with a length.
+    pub fn sized(length: u16) -> Self
+        ensures { (result.length ≡ length) × (result.transaction_number ≡ 0) }
+    {
+        Accepted {
+            length,
+            transaction_number: 0,
+        }
     }
-}
 
-// An acceptance with a transaction number.
-pub fn numbered(transaction_number: u16) -> Answer
-    ensures { (result.number ≡ 0) × (result.length ≡ 0) × (result.transaction_number ≡ transaction_number) }
-{
-    Answer {
-        number: 0,
-        length: 0,
-        transaction_number,
+    // An acceptance with a transaction number.
+    pub fn numbered(transaction_number: u16) -> Self
+        ensures { (result.length ≡ 0) × (result.transaction_number ≡ transaction_number) }
+    {
+        Accepted {
+            length: 0,
+            transaction_number,
+        }
     }
 }

@@ -1,43 +1,21 @@
-// Readers of fixed lengths: the first bytes of a slice as an array. Bytes that are not there are 0.
+// Byte strings of a fixed length, as arrays.
 ghost use Rattle.std.specs.Prelude.{◌≡◌, length};
-ghost use Rattle.answer.specs.Fixed.{fit};
+ghost use Rattle.answer.specs.Fixed.{fit, HasExactly};
 
-pub(crate) fn two(s: &[u8]) -> [u8; 2]
-    ensures { result ≡ fit 2 s.now }
+use crate::refusal::Refusal;
+
+// The bytes of s, which has to have N of them.
+pub fn exact<const N: usize>(s: &[u8]) -> Result<[u8; N], Refusal>
+    ensures { HasExactly N s.now result }
 {
-    let mut a = [0u8; 2];
-    cipher::copy(s, &mut a);
-    a
+    <[u8; N]>::try_from(s).map_err(|_| Refusal::BadMarkOrLength)
 }
 
-pub fn four(s: &[u8]) -> [u8; 4]
-    ensures { (result ≡ fit 4 s.now) × (length s.now ≡ 4 → result ≡ s.now) }
+// The first N bytes of s. Bytes that are not there are 0.
+pub fn fit<const N: usize>(s: &[u8]) -> [u8; N]
+    ensures { (result ≡ fit N s.now) × (length s.now ≡ N → result ≡ s.now) }
 {
-    let mut a = [0u8; 4];
-    cipher::copy(s, &mut a);
-    a
-}
-
-pub fn six(s: &[u8]) -> [u8; 6]
-    ensures { (result ≡ fit 6 s.now) × (length s.now ≡ 6 → result ≡ s.now) }
-{
-    let mut a = [0u8; 6];
-    cipher::copy(s, &mut a);
-    a
-}
-
-pub fn eight(s: &[u8]) -> [u8; 8]
-    ensures { (result ≡ fit 8 s.now) × (length s.now ≡ 8 → result ≡ s.now) }
-{
-    let mut a = [0u8; 8];
-    cipher::copy(s, &mut a);
-    a
-}
-
-pub fn sixteen(s: &[u8]) -> [u8; 16]
-    ensures { (result ≡ fit 16 s.now) × (length s.now ≡ 16 → result ≡ s.now) }
-{
-    let mut a = [0u8; 16];
+    let mut a = [0u8; N];
     cipher::copy(s, &mut a);
     a
 }

@@ -7,7 +7,7 @@ use Rattle.answer.proofs.delivery.deliver.Goals as goal
 pub returns-then-out-payload : goal.returns-then-out-payload
 returns-then-out-payload c =
     let a = c.args in
-    rw (no_room a.transaction_number a.payload.now (length a.out.now) c.if-out-payload.true) (refused_delivers 16 _ a.out.now c.refused.ensures)
+    rw (no_room a.transaction_number a.payload.now (length a.out.now) c.if-out-payload.true) (refused_delivers 16 _ a.out.now (refl, refl, refl))
 
 pub returns : goal.returns
 returns c =
