@@ -104,11 +104,11 @@ module _ (i n : ℕ) where
 
 -- two lengths that have to be m and n
 module _ (i j m n : ℕ) where
-  pub first_wrong : i ≢ m → either (isnt (eqb i m)) (isnt (eqb j n)) ≡ true
+  first_wrong : i ≢ m → either (isnt (eqb i m)) (isnt (eqb j n)) ≡ true
   unfolding either
   first_wrong h = rw (wrong_length i m h)
 
-  pub second_wrong : j ≢ n → either (isnt (eqb i m)) (isnt (eqb j n)) ≡ true
+  second_wrong : j ≢ n → either (isnt (eqb i m)) (isnt (eqb j n)) ≡ true
   unfolding either
   second_wrong h = rw (wrong_length j n h) (by (isnt (eqb i m)))
     where
@@ -119,6 +119,25 @@ module _ (i j m n : ℕ) where
   pub both_right : i ≡ m → j ≡ n → either (isnt (eqb i m)) (isnt (eqb j n)) ≡ false
   unfolding either
   both_right h k = rw (right_length i m h, right_length j n k)
+
+  -- row 17 by them, before other rows: what the readers of the two answered
+  module _ (rs : List Row) where
+    pub first_17 : (e : Refusal) → (i ≢ m) × (e ≡ BadMarkOrLength) → first_of (row 17 (either (isnt (eqb i m)) (isnt (eqb j n))) ∷ rs) ≡ refusal_number e
+    first_17 e h = first_holds 17 _ rs (first_wrong h.0) ∙ ap refusal_number (sym h.1)
+
+    pub second_17 : (e : Refusal) → (j ≢ n) × (e ≡ BadMarkOrLength) → first_of (row 17 (either (isnt (eqb i m)) (isnt (eqb j n))) ∷ rs) ≡ refusal_number e
+    second_17 e h = first_holds 17 _ rs (second_wrong h.0) ∙ ap refusal_number (sym h.1)
+
+    pub past_17 : i ≡ m → j ≡ n → first_of (row 17 (either (isnt (eqb i m)) (isnt (eqb j n))) ∷ rs) ≡ first_of rs
+    past_17 h k = first_not 17 _ rs (both_right h k)
+
+-- the same of one length
+module _ (i n : ℕ) (rs : List Row) where
+  pub one_17 : (e : Refusal) → (i ≢ n) × (e ≡ BadMarkOrLength) → first_of (row 17 (isnt (eqb i n)) ∷ rs) ≡ refusal_number e
+  one_17 e h = first_holds 17 _ rs (wrong_length i n h.0) ∙ ap refusal_number (sym h.1)
+
+  pub past_one_17 : i ≡ n → first_of (row 17 (isnt (eqb i n)) ∷ rs) ≡ first_of rs
+  past_one_17 h = first_not 17 _ rs (right_length i n h)
 
 -- ---- answers
 
