@@ -174,8 +174,8 @@ unfolding accepted
 accepted_meets n b r before after h l t w = record { number = h; length_is = l; transaction = t; output = w }
 
 -- a refusal has no other value
-pub err_meets : (e : Refusal) (out : List ℕ) → Meets (refused (refusal_number e)) (Err e) out out
-err_meets e out = refused_meets (refusal_number e) (Err e) out (refl, refl, refl)
+pub err_meets : (e : Refusal) (out : List ℕ) {r : Answer} → r ≡ Err e → Meets (refused (refusal_number e)) r out out
+err_meets e out {r} h = rw h (refused_meets (refusal_number e) (Err e) out (refl, refl, refl))
 
 -- the same for an outcome that is known to be one of them
 pub meets_refused : (o : Outcome) (k : ℕ) (r : Answer) (out : List ℕ) → o ≡ refused k → Refused k r → Meets o r out out
@@ -195,8 +195,8 @@ module _ (rs : List Row) (o : Outcome) (r : Answer) where
   passed_meets before after h m = rw (decide_false rs o h) m
 
 -- the refusal of the first row that holds
-pub row_meets : (rs : List Row) (o : Outcome) (e : Refusal) (out : List ℕ) → first_of rs ≡ refusal_number e → Meets (decide rs o) (Err e) out out
-row_meets rs o e out h = rw (first_refuses rs o (refusal_number e) (sym h) (refusal_some e)) (err_meets e out)
+pub row_meets : (rs : List Row) (o : Outcome) (e : Refusal) (out : List ℕ) {r : Answer} → r ≡ Err e → first_of rs ≡ refusal_number e → Meets (decide rs o) r out out
+row_meets rs o e out {r} q h = rw (first_refuses rs o (refusal_number e) (sym h) (refusal_some e)) (err_meets e out q)
 
 -- ---- delivery
 
