@@ -29,6 +29,11 @@ pub copied_over : (b o s : List ℕ) → length b ≤ length o → s ≡ take (l
 unfolding over
 copied_over b o s h e = e ∙ rw (take_all (length o) b h)
 
+-- as many bytes as the front has, put there
+pub placed_over : (b o last : List ℕ) (n : ℕ) → length b ≡ n → last ≡ b → last ++ drop n o ≡ over b o
+unfolding over
+placed_over b o last n l e = rw (e, l)
+
 -- the first two bytes, stored one by one
 pub over_two : (o : List ℕ) (x y : ℕ) → 2 ≤ length o → set (set o 0 x) 1 y ≡ over (x ∷ y ∷ []) o
 unfolding over

@@ -1,12 +1,12 @@
 -- Pieces of an output: one copied behind what was written, and the last one changed in place. Assumes nothing.
 use mathlib.Core.Path.{◌≡◌, sym, ap, ap₂, ◌∙◌}
-use mathlib.Core.List.{List, ◌++◌, append_assoc}
+use mathlib.Core.List.{List, ◌++◌, append_assoc, append-nil}
 use Prim.Native.Nat.{ℕ, ◌+◌, ◌≤◌, min}
 use native.Mathlib.Nat.{min-le_right}
 use native.Mathlib.Omega.{arith}
 use borrow.Rule.Slice.PartMut.{same_len_mid}
-use lib.ListN.{length, take, drop, length-append, length-take}
-use lib.Seq.{take_at, drop_at}
+use lib.ListN.{length, take, drop, length-append, length-take, drop_of_length-le}
+use lib.Seq.{take_at, drop_at, take_all}
 use Rattle.cipher.proofs.Copies.{length_part}
 use Rattle.answer.specs.Outcome.{over}
 use Rattle.answer.proofs.Outputs.{length_over, copied_behind}
@@ -32,6 +32,13 @@ module _ (b o s : List ℕ) (n k : ℕ) (long : length b ≡ n) (room : n + k �
   -- p was copied there
   pub copied_next : (p last : List ℕ) → length p ≡ k → last ≡ take (length (take k (drop n s))) p ++ drop (length p) (take k (drop n s)) → take n s ++ (last ++ drop k (drop n s)) ≡ over (b ++ p) o
   copied_next p last l h = copied_behind b o s n long e p k (omega (arith, length_next)) last h
+
+  -- p was put there
+  pub placed_next : (p last : List ℕ) → length p ≡ k → last ≡ p → take n s ++ (last ++ drop k (drop n s)) ≡ over (b ++ p) o
+  placed_next p last l h =
+      let f : length p ≤ length (take k (drop n s)) = omega (arith, length_next) in
+      let g : length (take k (drop n s)) ≤ length p = omega (arith, length_next) in
+      copied_next p last l (h ∙ sym (rw (take_all (length (take k (drop n s))) p f, drop_of_length-le (take k (drop n s)) g) (append-nil p)))
 
 -- b and then p, of k bytes, were written
 module _ (b p o s : List ℕ) (n k : ℕ) (long : length b ≡ n) (wide : length p ≡ k) (e : s ≡ over (b ++ p) o) where

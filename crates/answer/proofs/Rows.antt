@@ -4,10 +4,14 @@ use mathlib.Core.Bool.{Bool, true, false}
 use mathlib.Core.List.{List, [], ◌∷◌}
 use Prim.Native.Nat.{ℕ, ◌%◌, ◌≤◌, ◌<◌}
 use native.Mathlib.Omega.{arith}
-use borrow.Author.Tests.{eqb-true, ltb-true, lt-ltb, le-ltb}
+use borrow.Author.Tests.{eqb-true, eq-eqb, ne_eqb, ltb-true, lt-ltb, le-ltb}
 use lib.Dec.{eqb, ltb}
 use lib.ListN.{length}
-use Rattle.answer.specs.Outcome.{Outcome, Row, Meets, Answer, answer_number, answer_length, answer_transaction, refused, accepted, choose, decide, first_of, over}
+use Rattle.std.specs.Prelude.{Err, ◌≢◌}
+use Rattle.answer.specs.declared.refusal.Refusal.{Refusal}
+use Rattle.answer.specs.declared.refusal.Refusal.TheVariants.{TooManyEntries, SameKeyTwice, NoNodes, KeyMissing, OtherAlgorithm, IndividualKeyWithDes, DesWithoutArea, DesWithoutKeyedService, NumberExhausted, NotWholeBlocks, TooShort, TooLong, MacDiffers, IdDiffers, NumberNotAbove, OutputTooSmall, BadMarkOrLength}
+use Rattle.answer.specs.Refusal.{refusal_number}
+use Rattle.answer.specs.Outcome.{Outcome, Row, Meets, Answer, answer_number, answer_length, answer_transaction, refused, accepted, row, choose, decide, first_of, over}
 use Rattle.answer.specs.Tests.{isnt, either, both}
 use Rattle.answer.specs.Delivery.{delivering, Delivers}
 use Rattle.answer.proofs.Equality.{both_true}
@@ -76,7 +80,86 @@ first_passes (r ∷ rs) k n e z =
     let p = passes_at r.holds r.number rs b.0 (sym z ∙ e) in
     (p.0, first_passes rs 0 b.1 p.1 refl)
 
+-- ---- row 17
+
+-- the first row, where it holds and where it does not
+module _ (k : ℕ) (t : Bool) (rs : List Row) where
+  pub first_holds : t ≡ true → first_of (row k t ∷ rs) ≡ k
+  unfolding first_of choose
+  first_holds h = rw h
+
+  pub first_not : t ≡ false → first_of (row k t ∷ rs) ≡ first_of rs
+  unfolding first_of choose
+  first_not h = rw h
+
+-- one length that has to be n
+module _ (i n : ℕ) where
+  pub wrong_length : i ≢ n → isnt (eqb i n) ≡ true
+  unfolding isnt
+  wrong_length h = rw (ne_eqb i n h)
+
+  pub right_length : i ≡ n → isnt (eqb i n) ≡ false
+  unfolding isnt
+  right_length h = rw (eq-eqb i n h)
+
+-- two lengths that have to be m and n
+module _ (i j m n : ℕ) where
+  first_wrong : i ≢ m → either (isnt (eqb i m)) (isnt (eqb j n)) ≡ true
+  unfolding either
+  first_wrong h = rw (wrong_length i m h)
+
+  second_wrong : j ≢ n → either (isnt (eqb i m)) (isnt (eqb j n)) ≡ true
+  unfolding either
+  second_wrong h = rw (wrong_length j n h) (by (isnt (eqb i m)))
+    where
+      by : (b : Bool) → either b true ≡ true
+      by true = refl
+      by false = refl
+
+  pub both_right : i ≡ m → j ≡ n → either (isnt (eqb i m)) (isnt (eqb j n)) ≡ false
+  unfolding either
+  both_right h k = rw (right_length i m h, right_length j n k)
+
+  -- row 17 by them, before other rows: what the readers of the two answered
+  module _ (rs : List Row) where
+    pub first_17 : (e : Refusal) → (i ≢ m) × (e ≡ BadMarkOrLength) → first_of (row 17 (either (isnt (eqb i m)) (isnt (eqb j n))) ∷ rs) ≡ refusal_number e
+    first_17 e h = first_holds 17 _ rs (first_wrong h.0) ∙ ap refusal_number (sym h.1)
+
+    pub second_17 : (e : Refusal) → (j ≢ n) × (e ≡ BadMarkOrLength) → first_of (row 17 (either (isnt (eqb i m)) (isnt (eqb j n))) ∷ rs) ≡ refusal_number e
+    second_17 e h = first_holds 17 _ rs (second_wrong h.0) ∙ ap refusal_number (sym h.1)
+
+    pub past_17 : i ≡ m → j ≡ n → first_of (row 17 (either (isnt (eqb i m)) (isnt (eqb j n))) ∷ rs) ≡ first_of rs
+    past_17 h k = first_not 17 _ rs (both_right h k)
+
+-- the same of one length
+module _ (i n : ℕ) (rs : List Row) where
+  pub one_17 : (e : Refusal) → (i ≢ n) × (e ≡ BadMarkOrLength) → first_of (row 17 (isnt (eqb i n)) ∷ rs) ≡ refusal_number e
+  one_17 e h = first_holds 17 _ rs (wrong_length i n h.0) ∙ ap refusal_number (sym h.1)
+
+  pub past_one_17 : i ≡ n → first_of (row 17 (isnt (eqb i n)) ∷ rs) ≡ first_of rs
+  past_one_17 h = first_not 17 _ rs (right_length i n h)
+
 -- ---- answers
+
+-- a refusal has a number
+pub refusal_some : (e : Refusal) → refusal_number e ≢ 0
+refusal_some TooManyEntries = λ h. omega arith
+refusal_some SameKeyTwice = λ h. omega arith
+refusal_some NoNodes = λ h. omega arith
+refusal_some (KeyMissing node) = λ h. omega arith
+refusal_some OtherAlgorithm = λ h. omega arith
+refusal_some IndividualKeyWithDes = λ h. omega arith
+refusal_some DesWithoutArea = λ h. omega arith
+refusal_some DesWithoutKeyedService = λ h. omega arith
+refusal_some NumberExhausted = λ h. omega arith
+refusal_some NotWholeBlocks = λ h. omega arith
+refusal_some TooShort = λ h. omega arith
+refusal_some TooLong = λ h. omega arith
+refusal_some MacDiffers = λ h. omega arith
+refusal_some IdDiffers = λ h. omega arith
+refusal_some NumberNotAbove = λ h. omega arith
+refusal_some OutputTooSmall = λ h. omega arith
+refusal_some BadMarkOrLength = λ h. omega arith
 
 -- an answer that is the refusal k
 abbrev pub Refused : ℕ → Answer → Type 0
@@ -89,6 +172,10 @@ refused_meets k r out h = record { number = h.0; length_is = h.1; transaction = 
 pub accepted_meets : (n : ℕ) (b : List ℕ) (r : Answer) (before after : List ℕ) → answer_number r ≡ 0 → answer_length r ≡ length b → answer_transaction r ≡ n → after ≡ over b before → Meets (accepted n b) r before after
 unfolding accepted
 accepted_meets n b r before after h l t w = record { number = h; length_is = l; transaction = t; output = w }
+
+-- a refusal has no other value
+pub err_meets : (e : Refusal) (out : List ℕ) {r : Answer} → r ≡ Err e → Meets (refused (refusal_number e)) r out out
+err_meets e out {r} h = rw h (refused_meets (refusal_number e) (Err e) out (refl, refl, refl))
 
 -- the same for an outcome that is known to be one of them
 pub meets_refused : (o : Outcome) (k : ℕ) (r : Answer) (out : List ℕ) → o ≡ refused k → Refused k r → Meets o r out out
@@ -106,6 +193,10 @@ module _ (rs : List Row) (o : Outcome) (r : Answer) where
   -- no row holds
   pub passed_meets : (before after : List ℕ) → AllFalse rs → Meets o r before after → Meets (decide rs o) r before after
   passed_meets before after h m = rw (decide_false rs o h) m
+
+-- the refusal of the first row that holds
+pub row_meets : (rs : List Row) (o : Outcome) (e : Refusal) (out : List ℕ) {r : Answer} → r ≡ Err e → first_of rs ≡ refusal_number e → Meets (decide rs o) r out out
+row_meets rs o e out {r} q h = rw (first_refuses rs o (refusal_number e) (sym h) (refusal_some e)) (err_meets e out q)
 
 -- ---- delivery
 

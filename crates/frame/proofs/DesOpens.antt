@@ -4,7 +4,7 @@ use mathlib.Core.Bool.{Bool, true, false}
 use mathlib.Core.List.{List, [], ◌∷◌, ◌++◌}
 use Prim.Native.Nat.{ℕ, ◌+◌, ◌-◌, ◌%◌, ◌≤◌}
 use native.Mathlib.Omega.{arith}
-use borrow.Author.Tests.{ltb-false}
+use borrow.Author.Tests.{le-ltb}
 use lib.Dec.{eqb, ltb}
 use lib.ListN.{length, take, drop, length-drop}
 use lib.Seq.{take_all}
@@ -18,7 +18,7 @@ use Rattle.frame.specs.inner.DesSteps.{des_accepting}
 use Rattle.answer.specs.Outcome.{first_of}
 use Rattle.frame.specs.inner.Response.{checked_delivering, parsed_delivering}
 use Rattle.answer.specs.Tests.{isnt, both, same}
-use Rattle.answer.proofs.Rows.{AllFalse, numbered, first_passes, either_false, is_number}
+use Rattle.answer.proofs.Rows.{AllFalse, both_right, right_length}
 use Rattle.answer.proofs.Pieces.{no_longer}
 use Rattle.answer.proofs.Equality.{same_is}
 
@@ -69,29 +69,12 @@ module _ (number room : ℕ) (found payload id : List ℕ) where
   unfolding checked_delivering decide choose isnt
   right_id h = rw h
 
--- ---- the guard
+-- ---- the rows by lengths
 
-pub record Openable (id key sealed : ℕ) : Type 0 where
-  pub rows : AllFalse (open_rows id key sealed)
-  pub six : id ≡ 6
-  pub eight : key ≡ 8
-  pub blocks : sealed % 8 ≡ 0
-  pub enough : 16 ≤ sealed
-  pub short : sealed ≤ 253
-
-pub open_passes : (id key sealed k : ℕ) → k ≡ first_of (open_rows id key sealed) → k ≡ 0 → Openable id key sealed
-unfolding open_rows numbered both
-open_passes id key sealed k e z =
-    let a = first_passes (open_rows id key sealed) k refl e z in
-    let b = either_false (isnt (eqb id 6)) (isnt (eqb key 8)) a.0 in
-    record {
-      rows = a;
-      six = is_number id 6 b.0;
-      eight = is_number key 8 b.1;
-      blocks = is_number (sealed % 8) 0 a.1.0;
-      enough = ltb-false sealed 16 a.1.1.0;
-      short = ltb-false 253 sealed a.1.1.1.0;
-    }
+-- none holds
+pub open_none : (id key sealed : ℕ) → id ≡ 6 → key ≡ 8 → sealed % 8 ≡ 0 → 16 ≤ sealed → sealed ≤ 253 → AllFalse (open_rows id key sealed)
+unfolding open_rows
+open_none id key sealed i k w m s = (both_right id key 6 8 i k, (right_length (sealed % 8) 0 w, (le-ltb sealed 16 m, (le-ltb 253 sealed s, tt))))
 
 -- the rows by lengths alone, then those of the plain text
 pub open_steps : (key id sealed : List ℕ) (code room : ℕ) → des_opening key code id sealed room ≡ decide (open_rows (length id) (length key) (length sealed)) (des_accepting code id (des_plain key sealed) room)

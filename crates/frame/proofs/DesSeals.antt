@@ -3,7 +3,6 @@ use mathlib.Core.Path.{◌≡◌, refl, sym, ap, ◌∙◌}
 use mathlib.Core.List.{List, [], ◌∷◌, ◌++◌}
 use Prim.Native.Nat.{ℕ, suc, ◌+◌, ◌-◌, ◌/◌, ◌%◌, ◌≤◌, ◌<◌}
 use native.Mathlib.Omega.{arith}
-use borrow.Author.Tests.{ltb-false}
 use lib.Dec.{eqb, ltb}
 use lib.ListN.{length, take, drop, set, replicate, length-append, length-set}
 use lib.Seq.{length-take-le}
@@ -13,10 +12,7 @@ use Rattle.cipher.proofs.Copies.{length_part}
 use Rattle.answer.specs.Outcome.{over, accepted, row, decide}
 use Rattle.frame.specs.Padding.{pad_count, pad}
 use Rattle.frame.specs.DesFrame.{des_mac, des_seal, header, des_sealed, des_size, des_sealing, seal_rows}
-use Rattle.answer.specs.Outcome.{first_of}
-use Rattle.answer.specs.Tests.{isnt, both}
 use Rattle.answer.proofs.Outputs.{front, over_self, over_two, over_over, copied_behind, filled_behind}
-use Rattle.answer.proofs.Rows.{AllFalse, numbered, first_passes, either_false, is_number}
 use Rattle.frame.proofs.Fronts.{in_place}
 use Rattle.frame.proofs.Pads.{pad_count_small, pad_count_whole, length_pad}
 
@@ -25,26 +21,23 @@ pub size_most : (n : ℕ) → n ≤ 232 → des_size n ≤ 248
 unfolding des_size
 size_most n h = omega (arith, pad_count_small (n + 8), pad_count_whole (n + 8))
 
+-- brought up to a multiple of 8, a length has its padding
+pub padded_length : (n : ℕ) → n + (8 - n % 8) % 8 ≡ n + pad_count n
+unfolding pad_count
+padded_length n = refl
+
 -- the padding was filled in behind the first len bytes
-pub padded_front : (o last : List ℕ) (len count : ℕ) → len + pad_count len ≤ length o → count ≡ pad_count len
-    → last ≡ replicate (length (take (len + count - len) (drop len o))) count → take len o ++ (last ++ drop (len + count - len) (drop len o)) ≡ over (pad (take len o)) o
+pub padded_front : (o last : List ℕ) (len end : ℕ) → len + pad_count len ≤ length o → end ≡ len + pad_count len
+    → last ≡ replicate (length (take (end - len) (drop len o))) (end - len) → take len o ++ (last ++ drop (end - len) (drop len o)) ≡ over (pad (take len o)) o
 unfolding pad
-padded_front o last len count h e q =
+padded_front o last len end h e q =
     let k : len ≤ length o = omega arith in
     let l : length (take len o) ≡ len = length-take-le len o k in
-    let c : len + count - len ≡ count = omega arith in
-    let g : length (take (len + count - len) (drop len o)) ≡ count = rw c (length_part o len count (omega arith)) in
-    filled_behind (take len o) o o len l (over_self o len k) last count count (len + count - len) g q ∙ rw (l, e)
+    let c : end - len ≡ pad_count len = omega arith in
+    let g : length (take (end - len) (drop len o)) ≡ end - len = length_part o len (end - len) (omega arith) in
+    filled_behind (take len o) o o len l (over_self o len k) last (end - len) (end - len) (end - len) g q ∙ rw (l, c)
 
 -- number and ID
-pub header_written : (o id last : List ℕ) (number : ℕ) → 8 ≤ length o → length id ≡ 6 → (s : List ℕ) → s ≡ set (set o 0 (number % 256)) 1 (number / 256 % 256)
-    → last ≡ take (length (take 6 (drop 2 s))) id ++ drop (length id) (take 6 (drop 2 s)) → take 2 s ++ (last ++ drop 6 (drop 2 s)) ≡ over (header number id) o
-unfolding header
-header_written o id last number h six s es q =
-    let l : length s ≡ length o = ap length es ∙ simp length-set in
-    let p : length (take 6 (drop 2 s)) ≡ 6 = length_part s 2 6 (omega arith) in
-    copied_behind (number % 256 ∷ number / 256 % 256 ∷ []) o s 2 refl (es ∙ over_two o _ _ (omega arith)) id 6 (omega arith) last q
-
 pub length_header : (number : ℕ) (id : List ℕ) → length id ≡ 6 → length (header number id) ≡ 8
 unfolding header
 length_header number id e = ap (λ (k : ℕ). suc (suc k)) e
@@ -85,30 +78,13 @@ sealed_over code n r key b o s s' l e h =
 -- header and payload were written, and sealed in place
 pub written_des : (code number r : ℕ) (key id payload o s s' : List ℕ) → length id ≡ 6 → s ≡ over (header number id ++ payload) o
     → (r ≡ length payload + 8 + pad_count (length payload + 8) + 8) × (r ≡ length (des_seal key code (pad (take (length payload + 8) s)))) × (s' ≡ over (des_seal key code (pad (take (length payload + 8) s))) s)
-    → (r ≡ des_size (length payload)) × (r ≡ length (des_sealed key code number id payload)) × (s' ≡ over (des_sealed key code number id payload) o)
+    → (des_size (length payload) ≡ length (des_sealed key code number id payload)) × (s' ≡ over (des_sealed key code number id payload) o)
 unfolding des_size des_sealed
 written_des code number r key id payload o s s' six e h =
     let k : length (header number id) ≡ 8 = length_header number id six in
     let l : length (header number id ++ payload) ≡ length payload + 8 = length-append (header number id) payload ∙ omega arith in
     let q = sealed_over code (length payload + 8) r key (header number id ++ payload) o s s' l e h in
-    (h.0, q.0, q.1)
-
--- what holds where the guard answers 0
-pub record Sealable (id key payload : ℕ) : Type 0 where
-  pub rows : AllFalse (seal_rows id key payload)
-  pub six : id ≡ 6
-  pub eight : key ≡ 8
-  pub short : payload ≤ 232
-  pub some : 0 < des_size payload
-  pub fits : des_size payload ≤ 248
-
-pub seal_passes : (id key payload k : ℕ) → k ≡ first_of (seal_rows id key payload) → k ≡ 0 → Sealable id key payload
-unfolding seal_rows numbered both des_size
-seal_passes id key payload k e z =
-    let a = first_passes (seal_rows id key payload) k refl e z in
-    let b = either_false (isnt (eqb id 6)) (isnt (eqb key 8)) a.0 in
-    let h = ltb-false 232 payload a.1.0 in
-    record { rows = a; six = is_number id 6 b.0; eight = is_number key 8 b.1; short = h; some = omega arith; fits = size_most payload h }
+    (sym h.0 ∙ q.0, q.1)
 
 -- the rows by lengths alone, then 16
 pub seal_steps : (key id payload : List ℕ) (code number room : ℕ)

@@ -1,44 +1,29 @@
 -- Two IDs are equal if their numbers are. Assumes nothing.
-use mathlib.Core.Path.{◌≡◌, sym, ◌∙◌}
-use mathlib.Core.List.{List, [], ◌∷◌}
-use Prim.Native.Nat.{ℕ, ◌+◌, ◌*◌, ◌≤◌, ◌<◌}
+use mathlib.Core.Path.{◌≡◌, sym, ap, ◌∙◌}
+use mathlib.Core.Bool.{Bool, true}
+use mathlib.Core.List.{List, ◌++◌}
+use Prim.Native.Nat.{ℕ, ◌≤◌, ◌<◌}
 use native.Mathlib.Omega.{arith}
-use lib.ListN.{length, get_or, drop_of_length-le}
-use Rattle.answer.proofs.Elements.{elements, written_out}
+use borrow.Author.Tests.{eqb-true, eq-eqb}
+use lib.Dec.{eqb}
+use lib.ListN.{length, take, drop, replicate, get_or, length-append}
+use lib.Seq.{take_at, take_all}
+use Rattle.std.proofs.lemmas.Nat.{le_bytes_8}
+use Rattle.std.specs.Int.{w64, from_le_bytes, to_le_bytes}
+use Rattle.answer.specs.Fixed.{fit}
 
--- a byte and what is above it
-digit : (a b x y : ℕ) → a < 256 → b < 256 → a + x * 256 ≡ b + y * 256 → (a ≡ b) × (x ≡ y)
-digit a b x y h k e = (omega arith, omega arith)
+-- the bytes in front of the zeros
+front_of : (s : List ℕ) → length s ≡ 6 → take 6 (fit 8 s) ≡ s
+front_of s l =
+    let h : length s ≤ 8 = omega arith in
+    ap (take 6) (ap (λ (t : List ℕ). t ++ drop (length s) (replicate 8 0)) (take_all 8 s h)) ∙ take_at s (drop (length s) (replicate 8 0)) 6 l
 
-number_of_six : (a b c d e f a' b' c' d' e' f' : ℕ) → a < 256 → b < 256 → c < 256 → d < 256 → e < 256 → f < 256 → a' < 256 → b' < 256 → c' < 256 → d' < 256 → e' < 256 → f' < 256
-    → a + (b + (c + (d + (e + f * 256) * 256) * 256) * 256) * 256 ≡ a' + (b' + (c' + (d' + (e' + f' * 256) * 256) * 256) * 256) * 256
-    → ◌≡◌ {A = List ℕ} (a ∷ b ∷ c ∷ d ∷ e ∷ f ∷ []) (a' ∷ b' ∷ c' ∷ d' ∷ e' ∷ f' ∷ [])
-number_of_six a b c d e f a' b' c' d' e' f' ha hb hc hd he hf ha' hb' hc' hd' he' hf' q =
-    let q0 = digit a a' _ _ ha ha' q in
-    let q1 = digit b b' _ _ hb hb' q0.1 in
-    let q2 = digit c c' _ _ hc hc' q1.1 in
-    let q3 = digit d d' _ _ hd hd' q2.1 in
-    let q4 = digit e e' f f' he he' q3.1 in
-    rw (q0.0, q1.0, q2.0, q3.0, q4.0, q4.1)
-
--- a list of six, with each of them written out
-six : (s : List ℕ) → length s ≡ 6 → s ≡ get_or s 0 0 ∷ get_or s 1 0 ∷ get_or s 2 0 ∷ get_or s 3 0 ∷ get_or s 4 0 ∷ get_or s 5 0 ∷ []
-unfolding elements
-six s l =
-    let h : length s ≤ 6 = omega arith in
-    written_out 6 0 s (omega arith) ∙ rw (drop_of_length-le s h)
-
--- the number of the first six bytes
-abbrev pub six_bytes : List ℕ → ℕ
-six_bytes s = get_or s 0 0 + (get_or s 1 0 + (get_or s 2 0 + (get_or s 3 0 + (get_or s 4 0 + get_or s 5 0 * 256) * 256) * 256) * 256) * 256
-
--- they are bytes
-abbrev pub AreBytes : List ℕ → Type 0
-AreBytes s = (get_or s 0 0 < 256) × (get_or s 1 0 < 256) × (get_or s 2 0 < 256) × (get_or s 3 0 < 256) × (get_or s 4 0 < 256) × (get_or s 5 0 < 256)
-
-pub same_number : (s t : List ℕ) → length s ≡ 6 → length t ≡ 6 → AreBytes s → AreBytes t → six_bytes s ≡ six_bytes t → s ≡ t
-same_number s t l m hs ht q =
-    six s l
-    ∙ number_of_six (get_or s 0 0) (get_or s 1 0) (get_or s 2 0) (get_or s 3 0) (get_or s 4 0) (get_or s 5 0) (get_or t 0 0) (get_or t 1 0) (get_or t 2 0) (get_or t 3 0) (get_or t 4 0) (get_or t 5 0)
-    hs.0 hs.1 hs.2 hs.3 hs.4 hs.5 ht.0 ht.1 ht.2 ht.3 ht.4 ht.5 q
-    ∙ sym (six t m)
+-- the numbers m and n of the bytes a and b, which the IDs x and y were read into
+module _ (x y a b : List ℕ) (m n : ℕ) (lx : length x ≡ 6) (ly : length y ≡ 6) (ea : a ≡ fit 8 x) (eb : b ≡ fit 8 y) (em : m ≡ from_le_bytes w64 a) (en : n ≡ from_le_bytes w64 b) where
+  pub same_ids : (la : length a ≡ 8) (lb : length b ≡ 8) → ((i : ℕ) → get_or a i 0 < 256) → ((i : ℕ) → get_or b i 0 < 256) → (eqb m n ≡ true → x ≡ y) × (x ≡ y → eqb m n ≡ true)
+  same_ids la lb ba bb = (
+    λ t. let e : m ≡ n = eqb-true m n t in
+        let p : a ≡ b = sym (le_bytes_8 a m la ba em) ∙ ap (to_le_bytes w64) e ∙ le_bytes_8 b n lb bb en in
+        sym (front_of x lx) ∙ ap (take 6) (sym ea ∙ p ∙ eb) ∙ front_of y ly,
+    λ e. eq-eqb m n (em ∙ ap (from_le_bytes w64) (ea ∙ ap (fit 8) e ∙ sym eb) ∙ sym en),
+  )

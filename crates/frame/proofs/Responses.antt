@@ -5,7 +5,7 @@ use lib.ListN.{length}
 use denote.Ref.{Bor}
 use Rattle.answer.specs.Outcome.{Meets}
 use Rattle.frame.specs.inner.Response.{header_of, Parses, checked_delivering, parsed_delivering}
-use Rattle.answer.specs.declared.answer.Answer.{Answer}
+use Rattle.answer.specs.Outcome.{Answer}
 use Rattle.frame.specs.declared.des.SecureResponse.{SecureResponse}
 use Rattle.frame.proofs.DesOpens.{short_payload}
 

@@ -8,15 +8,18 @@ use native.Mathlib.Omega.{arith}
 use borrow.Author.Tests.{eqb-true, eqb-false, ne_eqb, lt-ltb, le-ltb}
 use lib.Dec.{eqb}
 use Rattle.cipher.proofs.Numbers.{le_or_lt}
-use Rattle.answer.specs.declared.answer.Answer.{Answer}
-use Rattle.answer.specs.Outcome.{Outcome, refused, choose, first_of}
+use Rattle.std.specs.Prelude.{Err, ◌≢◌}
+use Rattle.answer.specs.declared.refusal.Refusal.{Refusal}
+use Rattle.answer.specs.declared.refusal.Refusal.TheVariants.{TooLong, BadMarkOrLength}
+use Rattle.answer.specs.Refusal.{refusal_number}
+use Rattle.answer.specs.Outcome.{Meets, Answer, answer_number, answer_length, answer_transaction, Outcome, refused, choose, first_of}
 use Rattle.frame.specs.AesFrame.{aes_sealing, aes_opening}
 use Rattle.frame.specs.DesFrame.{des_size, des_sealing, des_opening}
 use Rattle.frame.specs.Forecast.{up_to_eights, forecast_size, forecast_rows, forecasting}
 use Rattle.frame.specs.Padding.{pad_count}
 use Rattle.frame.specs.Scheme.{by_scheme, sealing, opening, framing, responding, longest}
 use Rattle.answer.specs.Tests.{isnt, either}
-use Rattle.answer.proofs.Rows.{Refused}
+use Rattle.answer.proofs.Rows.{err_meets}
 use Rattle.answer.proofs.Refusals.{Whole, refused_number, refused_whole, choose_whole, decide_whole, accepted_whole, delivering_whole}
 use Rattle.frame.proofs.WorkBlocks.{framing_refusal}
 
@@ -42,6 +45,10 @@ module _ (s : ℕ) (a b : Outcome) where
   pub mark_unknown : (s ≡ 1 → ⊥) → (s ≡ 2 → ⊥) → by_scheme s a b ≡ refused 17
   unfolding by_scheme choose
   mark_unknown h i = rw (ne_eqb s 1 h, ne_eqb s 2 i)
+
+  -- what the reader of the mark answered
+  pub mark_17 : (e : Refusal) (out : List ℕ) {r : Answer} → r ≡ Err e → (e ≡ BadMarkOrLength) × (s ≢ 1) × (s ≢ 2) → Meets (by_scheme s a b) r out out
+  mark_17 e out {r} q h = rw (mark_unknown h.1 h.2 ∙ ap (λ (x : Refusal). refused (refusal_number x)) (sym h.0)) (err_meets e out q)
 
   -- an acceptance has a known mark
   mark_known : (by_scheme s a b).number ≡ 0 → (s ≡ 1) ⊎ (s ≡ 2)
@@ -73,6 +80,9 @@ module _ (scheme : ℕ) (c id payload : List ℕ) (code number room : ℕ) where
   pub responding_unknown : (scheme ≡ 1 → ⊥) → (scheme ≡ 2 → ⊥) → responding scheme c code number id payload room ≡ refused 17
   unfolding responding
   responding_unknown h i = ap (framing code) (sealing_unknown scheme c id payload code number (room - 2) h i) ∙ framing_refusal code 17 (λ e. omega arith)
+
+  pub responding_17 : (e : Refusal) (out : List ℕ) {r : Answer} → r ≡ Err e → (e ≡ BadMarkOrLength) × (scheme ≢ 1) × (scheme ≢ 2) → Meets (responding scheme c code number id payload room) r out out
+  responding_17 e out {r} q h = rw (responding_unknown h.1 h.2 ∙ ap (λ (x : Refusal). refused (refusal_number x)) (sym h.0)) (err_meets e out q)
 
 -- a refusal of sealing or opening is all of its outcome
 pub sealing_whole : (scheme code number room : ℕ) (c id payload : List ℕ) → Whole (sealing scheme c code number id payload room)
@@ -136,20 +146,23 @@ module _ (scheme n : ℕ) where
   module _ (r : Answer) where
     -- what `forecast` ensures
     abbrev Foretells : Type 0
-    Foretells = (r.number ≡ (forecasting scheme n).number) × (r.length ≡ (forecasting scheme n).size) × (r.transaction_number ≡ 0)
+    Foretells = (answer_number r ≡ (forecasting scheme n).number) × (answer_length r ≡ (forecasting scheme n).size) × (answer_transaction r ≡ 0)
 
     -- the answer and the forecast have the same number and size
-    forecasts : (k size : ℕ) → ((forecasting scheme n).number ≡ k) × ((forecasting scheme n).size ≡ size) → (r.number ≡ k) × (r.length ≡ size) × (r.transaction_number ≡ 0) → Foretells
+    forecasts : (k size : ℕ) → ((forecasting scheme n).number ≡ k) × ((forecasting scheme n).size ≡ size) → (answer_number r ≡ k) × (answer_length r ≡ size) × (answer_transaction r ≡ 0) → Foretells
     forecasts k size e f = (f.0 ∙ sym e.0, f.1 ∙ sym e.1, f.2)
 
-    pub forecast_unknown : (scheme ≡ 1 → ⊥) → (scheme ≡ 2 → ⊥) → Refused 17 r → Foretells
-    forecast_unknown h i = forecasts 17 0 (foretold_17 h i)
+    -- what the reader of the mark answered
+    pub forecast_17 : (e : Refusal) → r ≡ Err e → (e ≡ BadMarkOrLength) × (scheme ≢ 1) × (scheme ≢ 2) → Foretells
+    forecast_17 e q h = forecasts 17 0 (foretold_17 h.1 h.2) (rw (q, h.0) (refl, refl, refl))
 
-    pub forecast_long : (scheme ≡ 1) ⊎ (scheme ≡ 2) → longest scheme < n → Refused 12 r → Foretells
-    forecast_long known h = forecasts 12 0 (foretold_12 known h)
+    -- what the scheme's own size says
+    module _ (known : (scheme ≡ 1) ⊎ (scheme ≡ 2)) (most size : ℕ) (fixed : (longest scheme ≡ most) × (forecast_size scheme n ≡ size)) where
+      pub forecast_12 : (e : Refusal) → r ≡ Err e → (most < n) × (e ≡ TooLong) → Foretells
+      forecast_12 e q h = forecasts 12 0 (foretold_12 known (omega (arith, fixed.0, h.0))) (rw (q, h.1) (refl, refl, refl))
 
-    pub forecast_sized : (scheme ≡ 1) ⊎ (scheme ≡ 2) → n ≤ longest scheme → (r.number ≡ 0) × (r.length ≡ forecast_size scheme n) × (r.transaction_number ≡ 0) → Foretells
-    forecast_sized known h = forecasts 0 (forecast_size scheme n) (foretold_size known h)
+      pub forecast_sized : (s : ℕ) → (n ≤ most) × (s ≡ size) → (answer_number r ≡ 0) × (answer_length r ≡ s) × (answer_transaction r ≡ 0) → Foretells
+      forecast_sized s h f = forecasts 0 (forecast_size scheme n) (foretold_size known (omega (arith, fixed.0, h.0))) (f.0, f.1 ∙ h.1 ∙ sym fixed.1, f.2)
 
   -- what a mark fixes
   pub forecast_des : scheme ≡ 1 → (longest scheme ≡ 232) × (forecast_size scheme n ≡ des_size n)

@@ -1,10 +1,11 @@
 -- Trimmed opening, from the opening into a work block of 256 bytes. Assumes nothing.
 use mathlib.Core.Path.{◌≡◌, refl, sym, ap, ◌∙◌}
-use mathlib.Core.List.{List, ◌++◌}
+use mathlib.Core.List.{List, [], ◌∷◌, ◌++◌}
 use mathlib.Core.Logic.{⊎_elim}
 use Prim.Native.Nat.{ℕ, ◌-◌, ◌/◌, ◌%◌, ◌≤◌, ◌<◌}
 use native.Mathlib.Omega.{arith}
 use borrow.Author.Tests.{ltb-false}
+use lib.Seq.{take-nil}
 use lib.ListN.{length, take, get_or, length-take}
 use Rattle.cipher.specs.Bytes.{Bytes}
 use Rattle.cipher.proofs.Ciphers.{length_des_cbc_back}
@@ -19,10 +20,11 @@ use Rattle.frame.specs.Trimmed.{trim_count, trim, trimmed_opening}
 use Rattle.answer.proofs.Rows.{AllFalse, numbered, first_refuses, first_passes, decide_false, is_number, room_enough}
 use Rattle.answer.proofs.Pieces.{no_longer}
 
--- nothing is left of a payload that is no longer than what is dropped
-pub trim_short : (l : List ℕ) → length l ≤ trim_count (get_or l (length l - 1) 0) → take 0 l ≡ trim l
+-- an empty payload stays
+pub trim_empty : (l : List ℕ) → length l ≡ 0 → l ≡ trim l
 unfolding trim
-trim_short l h = let e : length l - trim_count (get_or l (length l - 1) 0) ≡ 0 = omega arith in rw e
+trim_empty [] e = sym (take-nil (0 - trim_count 0))
+trim_empty (x ∷ l) e = absurd (omega arith)
 
 -- a trimmed payload is no longer than the payload
 pub trim_no_longer : (l p : List ℕ) (m : ℕ) → p ≡ trim l → length l ≤ m → length p ≤ m

@@ -1,6 +1,7 @@
 -- What was sealed in a work block and goes out last: the sealing, and the response frame around it. Assumes nothing.
 use mathlib.Core.Path.{◌≡◌, refl, sym, ap, ◌∙◌}
 use mathlib.Core.List.{List, [], ◌∷◌, ◌++◌, append_assoc, append-nil}
+use mathlib.Core.Bool.{true}
 use mathlib.Core.Logic.{⊎_elim}
 use Prim.Native.Nat.{ℕ, suc, ◌+◌, ◌-◌, ◌≤◌, ◌<◌}
 use native.Mathlib.Omega.{arith}
@@ -9,12 +10,16 @@ use lib.Dec.{ltb}
 use lib.ListN.{length, take, drop}
 use lib.Seq.{take_at}
 use Rattle.cipher.proofs.Numbers.{le_or_lt}
-use Rattle.answer.specs.declared.answer.Answer.{Answer}
+use Rattle.std.specs.Prelude.{Result, Ok, Err}
+use Rattle.answer.specs.declared.refusal.Refusal.{Refusal}
+use Rattle.answer.specs.Refusal.{refusal_number}
 use Rattle.answer.specs.Delivery.{delivering, Delivers}
-use Rattle.answer.specs.Outcome.{Outcome, Row, Meets, refused, accepted, row, choose, decide, first_of, over}
-use Rattle.answer.proofs.Rows.{AllFalse, Refused, decide_false, first_refuses, refused_meets, delivers_meets, no_room, room_enough}
+use Rattle.answer.specs.Outcome.{Answer, Outcome, Row, Meets, refused, accepted, row, choose, decide, first_of, over}
+use Rattle.answer.proofs.Outputs.{front}
+use Rattle.answer.proofs.Rows.{numbered, decide_false, first_refuses, first_passes, refusal_some, err_meets, delivers_meets, no_room, room_enough}
 use Rattle.frame.specs.AesFrame.{aes_sealed, aes_size, aes_seal_rows}
 use Rattle.frame.specs.DesFrame.{des_sealed, des_size, seal_rows}
+use Rattle.frame.specs.inner.WorkBlock.{SealsInto}
 use Rattle.frame.specs.Scheme.{by_scheme, sealing, framed, framing, responding}
 use Rattle.frame.proofs.AesSeals.{aes_seal_steps}
 use Rattle.frame.proofs.DesSeals.{seal_steps}
@@ -55,37 +60,39 @@ framing_delivering code room b some =
 
 -- ---- what goes out
 
+-- sealing into a work block was refused by lengths
+pub not_sealed : (rs : List Row) (b : List ℕ) (size : ℕ) (e : Refusal) (w : List ℕ) {r : Result ℕ Refusal} → r ≡ Err e → first_of rs ≡ refusal_number e → SealsInto rs b size r w w
+not_sealed rs b size e w {r} q h = rw q h
+
 -- rows by lengths, then 16 by a size, then the sealed data b
-module _ (rs : List Row) (b : List ℕ) (size : ℕ) (r : Answer) (before after : List ℕ) where
+module _ (rs : List Row) (b : List ℕ) (size : ℕ) where
   abbrev pub sealing_of : ℕ → Outcome
   sealing_of room = decide rs (decide (row 16 (ltb room size) ∷ []) (accepted 0 b))
 
-  -- a row by lengths holds
-  pub guarded : (k room : ℕ) → k ≡ first_of rs → (k ≡ 0 → ⊥) → Refused k r → Meets (sealing_of room) r before before
-  guarded k room e h f = rw (first_refuses rs _ k e h) (refused_meets k r before f)
+  -- a row by lengths holds, also in a frame
+  pub refused_frame : (code room : ℕ) (e : Refusal) (out : List ℕ) {r : Answer} → r ≡ Err e → first_of rs ≡ refusal_number e → Meets (framing code (sealing_of room)) r out out
+  refused_frame code room e out {r} q h =
+      rw (first_refuses rs (decide (row 16 (ltb room size) ∷ []) (accepted 0 b)) (refusal_number e) (sym h) (refusal_some e), framing_refusal code (refusal_number e) (refusal_some e)) (err_meets e out q)
 
-  pub guarded_frame : (code k room : ℕ) → k ≡ first_of rs → (k ≡ 0 → ⊥) → Refused k r → Meets (framing code (sealing_of room)) r before before
-  guarded_frame code k room e h f = rw (first_refuses rs _ k e h, framing_refusal code k h) (refused_meets k r before f)
+  -- none does
+  passed : numbered rs ≡ true → first_of rs ≡ 0 → (o : Outcome) → decide rs o ≡ o
+  passed some h o = decide_false rs o (first_passes rs 0 some (sym h) refl)
 
-  -- none does, and the first n bytes of the work block w are delivered
-  module _ (w : List ℕ) (n : ℕ) (passed : AllFalse rs) (long : size ≡ length b) (short : size ≤ 253) where
-    -- what they are
-    goes_out : (p : List ℕ) (room : ℕ) → take n w ≡ p → length p ≤ 65535 → Delivers (delivering 0 (take (n - 0) w) room) r before after → Meets (delivering 0 p room) r before after
-    goes_out p room e l m =
-        let z : n - 0 ≡ n = omega arith in
-        let q : take (n - 0) w ≡ p = rw z e in
-        delivers_meets _ _ _ (rw q at m) l
-
-    pub delivered : (room : ℕ) → take n w ≡ b → Delivers (delivering 0 (take (n - 0) w) room) r before after → Meets (sealing_of room) r before after
-    delivered room e m =
+  -- the n bytes that were sealed over the front of the work block z are delivered
+  module _ (some : numbered rs ≡ true) (n : ℕ) (z w : List ℕ) (s : SealsInto rs b size (Ok n) z w) (room : ℕ) {r : Answer} {before after : List ℕ} where
+    pub delivered : Delivers (delivering 0 (take n w) room) r before after → Meets (sealing_of room) r before after
+    delivered m =
+        let f : take n w ≡ b = front b z w n (sym (s.1 ∙ s.3)) s.4 in
         let l : length b ≤ 65535 = omega arith in
-        rw (decide_false rs (decide (row 16 (ltb room size) ∷ []) (accepted 0 b)) passed, sized_delivering size room b long) (goes_out b room e l m)
+        rw (passed some s.0 (decide (row 16 (ltb room size) ∷ []) (accepted 0 b)), sized_delivering size room b s.3) (delivers_meets 0 b room (rw f at m) l)
 
-    pub delivered_frame : (code room : ℕ) → 0 < size → take n w ≡ framed code b → Delivers (delivering 0 (take (n - 0) w) room) r before after → Meets (framing code (sealing_of (room - 2))) r before after
+    -- and in a frame: w' is the work block, which has length byte and code before w
+    pub delivered_frame : (code : ℕ) (w' : List ℕ) → 0 < size → take (n + 2) w' ≡ framed code b → Delivers (delivering 0 (take (n + 2) w') room) r before after → Meets (framing code (sealing_of (room - 2))) r before after
     unfolding framed
-    delivered_frame code room some e m =
+    delivered_frame code w' more e m =
         let l : length (framed code b) ≤ 65535 = omega arith in
-        rw (decide_false rs (decide (row 16 (ltb (room - 2) size) ∷ []) (accepted 0 b)) passed, sized_delivering size (room - 2) b long, framing_delivering code room b (omega arith)) (goes_out (framed code b) room e l m)
+        rw (passed some s.0 (decide (row 16 (ltb (room - 2) size) ∷ []) (accepted 0 b)), sized_delivering size (room - 2) b s.3, framing_delivering code room b (omega arith))
+        (delivers_meets 0 (framed code b) room (rw e at m) l)
 
 -- a work block of 256 bytes, of which all but the first two were lent and came back as l
 pub behind_two : (l : List ℕ) → length l ≡ 254 → 256 ≡ suc (suc (length (l ++ [])))

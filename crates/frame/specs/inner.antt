@@ -2,3 +2,4 @@
 pub mod AesSteps
 pub mod DesSteps
 pub mod Response
+pub mod WorkBlock

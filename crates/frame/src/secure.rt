@@ -1,11 +1,11 @@
 // One call for both schemes, by scheme mark: 1 is DES, 2 is AES, every other is refused (the framing half of mod.rs).
 ghost use Rattle.std.specs.Prelude.{◌≡◌, length};
-ghost use Rattle.answer.specs.Outcome.{Meets};
+ghost use Rattle.answer.specs.Outcome.{answer_number, answer_length, answer_transaction, Meets};
 ghost use Rattle.frame.specs.Forecast.{forecasting};
 ghost use Rattle.frame.specs.Scheme.{sealing, opening, responding};
 
 use crate::{des, v2_aes};
-use answer::Answer;
+use answer::{Accepted, Answer, Scheme};
 
 // Scheme marks. They stand here once; a key's algorithm has the same numbers.
 pub const DES: u8 = 1;
@@ -24,20 +24,19 @@ pub fn encrypt_command(
 ) -> Answer
     ensures { Meets (sealing scheme credentials.now code number id.now payload.now (length out.old)) result out.old out.new }
 {
-    if scheme == DES {
-        return des::encrypt_secure_request_des(code, number, id, credentials, payload, out);
-    }
-    if scheme == AES128 {
-        return v2_aes::encrypt_secure_request_v2_aes128(
+    match Scheme::try_from(scheme)? {
+        Scheme::Des => {
+            des::encrypt_secure_request_des(code, number, id, credentials, payload, out)
+        }
+        Scheme::Aes128 => v2_aes::encrypt_secure_request_v2_aes128(
             code,
             number,
             id,
             credentials,
             payload,
             out,
-        );
+        ),
     }
-    answer::refused(17)
 }
 
 // Opens a sealed command or response: in a response frame, what follows the length byte and the code.
@@ -51,13 +50,12 @@ pub fn decrypt_response(
 ) -> Answer
     ensures { Meets (opening scheme credentials.now code id.now «data».now (length out.old)) result out.old out.new }
 {
-    if scheme == DES {
-        return des::decrypt_secure_response_des(code, id, credentials, data, out);
+    match Scheme::try_from(scheme)? {
+        Scheme::Des => des::decrypt_secure_response_des(code, id, credentials, data, out),
+        Scheme::Aes128 => {
+            v2_aes::decrypt_secure_response_v2_aes128(code, id, credentials, data, out)
+        }
     }
-    if scheme == AES128 {
-        return v2_aes::decrypt_secure_response_v2_aes128(code, id, credentials, data, out);
-    }
-    answer::refused(17)
 }
 
 // Makes a response frame: a length byte, which counts itself, the code, then the sealed response.
@@ -72,38 +70,27 @@ pub fn build_secure_response_frame(
 ) -> Answer
     ensures { Meets (responding scheme credentials.now code number id.now payload.now (length out.old)) result out.old out.new }
 {
-    if scheme == DES {
-        return des::build_secure_response_frame_des(code, number, id, credentials, payload, out);
-    }
-    if scheme == AES128 {
-        return v2_aes::build_secure_response_frame_v2_aes128(
+    match Scheme::try_from(scheme)? {
+        Scheme::Des => {
+            des::build_secure_response_frame_des(code, number, id, credentials, payload, out)
+        }
+        Scheme::Aes128 => v2_aes::build_secure_response_frame_v2_aes128(
             code,
             number,
             id,
             credentials,
             payload,
             out,
-        );
+        ),
     }
-    answer::refused(17)
 }
 
 // The size of a sealed payload of payload_len bytes: what encrypt_command writes.
 pub fn forecast(scheme: u8, payload_len: usize) -> Answer
-    ensures { (result.number ≡ (forecasting scheme payload_len).number) × (result.length ≡ (forecasting scheme payload_len).size) × (result.transaction_number ≡ 0) }
+    ensures { (answer_number result ≡ (forecasting scheme payload_len).number) × (answer_length result ≡ (forecasting scheme payload_len).size) × (answer_transaction result ≡ 0) }
 {
-    if scheme == DES {
-        if 232 < payload_len {
-            return answer::refused(12);
-        }
-        return answer::sized(des::size_des(payload_len) as u16);
+    match Scheme::try_from(scheme)? {
+        Scheme::Des => Ok(Accepted::sized(des::size_des(payload_len)? as u16)),
+        Scheme::Aes128 => Ok(Accepted::sized(v2_aes::size_aes(payload_len)? as u16)),
     }
-    if scheme == AES128 {
-        let too_long = 243 < payload_len;
-        if too_long {
-            return answer::refused(12);
-        }
-        return answer::sized((payload_len + 10) as u16);
-    }
-    answer::refused(17)
 }

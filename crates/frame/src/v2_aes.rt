@@ -1,37 +1,37 @@
 // Sealed AES data: number, cipher payload, cipher MAC (v2_aes.rs).
 ghost use Rattle.std.specs.Prelude.{◌≡◌, ◌+◌, ◌≤◌, length};
-ghost use Rattle.answer.specs.Outcome.{Meets, first_of, over};
-ghost use Rattle.frame.specs.inner.AesSteps.{aes_accepting, aes_trying};
+ghost use Rattle.answer.specs.Number.{number_bytes};
+ghost use Rattle.answer.specs.Outcome.{Meets, over};
+ghost use Rattle.frame.specs.inner.AesSteps.{bytes_of, ReadFrom, aes_accepting, aes_trying};
+ghost use Rattle.frame.specs.inner.WorkBlock.{HasSize, SealsInto};
 ghost use Rattle.frame.specs.Authentication2.{auth2_opening_aes};
 ghost use Rattle.frame.specs.Scheme.{responding};
-ghost use Rattle.frame.specs.AesFrame.{cipher_key, mac_key, challenge_3c, aes_iv, aes_mac, aes_sealed, aes_size, aes_seal_rows, aes_sealing, aes_open_rows, aes_opening};
+ghost use Rattle.frame.specs.AesFrame.{aes_iv, aes_mac, aes_sealed, aes_size, aes_seal_rows, aes_sealing, aes_opening};
 
 use crate::command;
-use answer::Answer;
+use answer::{Answer, Refusal};
 
 const AUTHENTICATION2_CODE: u8 = 0x43;
 
-// ---- the parts of the credentials
-
-fn cipher_key(credentials: &[u8]) -> [u8; 16]
-    requires { length credentials.now ≡ 36 }
-    ensures { result ≡ cipher_key credentials.now }
-{
-    answer::sixteen(&credentials[0..16])
+// What a session with AES seals and opens under: 36 bytes.
+#[derive(Clone, Copy)]
+pub(crate) struct Credentials {
+    pub(crate) cipher_key: [u8; 16],
+    pub(crate) mac_key: [u8; 16],
+    pub(crate) challenge_3c: [u8; 4],
 }
 
-fn mac_key(credentials: &[u8]) -> [u8; 16]
-    requires { length credentials.now ≡ 36 }
-    ensures { result ≡ mac_key credentials.now }
-{
-    answer::sixteen(&credentials[16..32])
-}
-
-fn challenge_3c(credentials: &[u8]) -> [u8; 4]
-    requires { length credentials.now ≡ 36 }
-    ensures { result ≡ challenge_3c credentials.now }
-{
-    answer::four(&credentials[32..])
+impl Credentials {
+    fn parse(bytes: &[u8]) -> Result<Self, Refusal>
+        ensures { ReadFrom bytes.now result }
+    {
+        let all = answer::exact::<36>(bytes)?;
+        Ok(Credentials {
+            cipher_key: answer::fit(&all[..16]),
+            mac_key: answer::fit(&all[16..32]),
+            challenge_3c: answer::fit(&all[32..]),
+        })
+    }
 }
 
 // ---- IV and MAC
@@ -40,20 +40,20 @@ fn challenge_3c(credentials: &[u8]) -> [u8; 4]
 fn build_initial_vector_v2_aes128(
     payload_length: usize,
     code: u8,
-    counter_bytes: [u8; 2],
+    number: u16,
     transaction_id: [u8; 6],
     challenge_3c: [u8; 4],
 ) -> [u8; 16]
     requires { payload_length ≤ 243 }
-    ensures { result ≡ aes_iv payload_length code counter_bytes transaction_id challenge_3c }
+    ensures { result ≡ aes_iv payload_length code (number_bytes number) transaction_id challenge_3c }
 {
     let mut iv = [0u8; 16];
     iv[0] = 0x01;
     iv[1] = (payload_length + 12) as u8;
     iv[2] = code;
-    cipher::copy(&counter_bytes, &mut iv[3..5]);
-    cipher::copy(&transaction_id, &mut iv[5..11]);
-    cipher::copy(&challenge_3c[1..4], &mut iv[11..14]);
+    iv[3..5].copy_from_slice(&number.to_le_bytes());
+    iv[5..11].copy_from_slice(&transaction_id);
+    iv[11..14].copy_from_slice(&challenge_3c[1..]);
     iv
 }
 
@@ -67,57 +67,66 @@ fn calculate_mac_v2_aes128(iv: [u8; 16], payload: &[u8], mac_key: [u8; 16]) -> [
     b0[14] = (n / 256 % 256) as u8;
     b0[15] = (n % 256) as u8;
     let full = cipher::aes128_cmac_after_block(b0, payload, mac_key);
-    answer::eight(&full[0..8])
+    answer::fit(&full[..8])
 }
 
 // ---- sealing
 
-// Writes the sealed data over the front of out, and answers its size. The payload is encrypted in out, and its MAC from the next block on.
+// 12, else the size of a sealed payload of n bytes.
+pub(crate) fn size_aes(n: usize) -> Result<usize, Refusal>
+    ensures { HasSize 243 n (aes_size n) result }
+{
+    if 243 < n {
+        return Err(Refusal::TooLong);
+    }
+    Ok(n + 10)
+}
+
+// Writes the sealed data over the front of out. The payload is encrypted in out, and its MAC before it goes there.
 fn write_aes(
     code: u8,
     number: u16,
     id: [u8; 6],
-    credentials: &[u8],
+    credentials: Credentials,
     payload: &[u8],
     out: &mut [u8],
-) -> usize
-    requires credentials_len { length credentials.now ≡ 36 }
+)
     requires payload_len_bound { length payload.now ≤ 243 }
-    requires payload_in_bounds { aes_size (length payload.now) ≤ length out.old }
-    ensures size { result ≡ aes_size (length payload.now) }
-    ensures sealed_length { result ≡ length (aes_sealed credentials.now code number id payload.now) }
-    ensures out_after { out.new ≡ over (aes_sealed credentials.now code number id payload.now) out.old }
+    requires payload_in_bounds { length payload.now + 10 ≤ length out.old }
+    ensures size { aes_size (length payload.now) ≡ length (aes_sealed (bytes_of credentials) code number id payload.now) }
+    ensures out_after { out.new ≡ over (aes_sealed (bytes_of credentials) code number id payload.now) out.old }
 {
     let n = payload.len();
     let end = n + 2;
-    let size = n + 10;
-    let counter_bytes = [(number % 256) as u8, (number / 256 % 256) as u8];
-    let iv = build_initial_vector_v2_aes128(n, code, counter_bytes, id, challenge_3c(credentials));
-    let mut mac = calculate_mac_v2_aes128(iv, payload, mac_key(credentials));
-    cipher::copy(&counter_bytes, out);
-    cipher::copy(payload, &mut out[2..end]);
-    cipher::apply_aes128_ofb_parts(&mut out[2..end], &mut mac, cipher_key(credentials), iv);
-    cipher::copy(&mac, &mut out[end..size]);
-    size
+    let iv = build_initial_vector_v2_aes128(n, code, number, id, credentials.challenge_3c);
+    let mut mac = calculate_mac_v2_aes128(iv, payload, credentials.mac_key);
+    out[..2].copy_from_slice(&number.to_le_bytes());
+    out[2..end].copy_from_slice(payload);
+    cipher::apply_aes128_ofb_parts(&mut out[2..end], &mut mac, credentials.cipher_key, iv);
+    out[end..n + 10].copy_from_slice(&mac);
 }
 
-// 17 and 12 of sealing, from lengths; 0 to go on.
-fn guard_seal_aes(id: usize, credentials: usize, payload: usize) -> u8
-    ensures { result ≡ first_of (aes_seal_rows id credentials payload) }
+// Seals a command or a response over the front of a work block; or 17 and 12 by lengths. The credentials are cipher key, MAC key and
+// Challenge 3C.
+fn seal_aes(
+    code: u8,
+    number: u16,
+    id: &[u8],
+    credentials: &[u8],
+    payload: &[u8],
+    work: &mut [u8],
+) -> Result<usize, Refusal>
+    requires { 253 ≤ length work.old }
+    ensures { SealsInto (aes_seal_rows (length id.now) (length credentials.now) (length payload.now)) (aes_sealed credentials.now code number id.now payload.now) (aes_size (length payload.now)) result work.old work.new }
 {
-    if id != 6 {
-        return 17;
-    }
-    if credentials != 36 {
-        return 17;
-    }
-    if 243 < payload {
-        return 12;
-    }
-    0
+    let id = answer::exact::<6>(id)?;
+    let credentials = Credentials::parse(credentials)?;
+    let size = size_aes(payload.len())?;
+    write_aes(code, number, id, credentials, payload, work);
+    Ok(size)
 }
 
-// Seals a command or a response in a work block. The credentials are cipher key, MAC key and Challenge 3C.
+// Seals a command or a response, in a work block.
 pub fn encrypt_secure_request_v2_aes128(
     code: u8,
     number: u16,
@@ -128,20 +137,9 @@ pub fn encrypt_secure_request_v2_aes128(
 ) -> Answer
     ensures { Meets (aes_sealing credentials.now code number id.now payload.now (length out.old)) result out.old out.new }
 {
-    let refusal = guard_seal_aes(id.len(), credentials.len(), payload.len());
-    if refusal != 0 {
-        return answer::refused(refusal);
-    }
     let mut work = [0u8; 256];
-    let end = write_aes(
-        code,
-        number,
-        answer::six(id),
-        credentials,
-        payload,
-        &mut work,
-    );
-    answer::deliver(0, &work[0..end], out)
+    let end = seal_aes(code, number, id, credentials, payload, &mut work)?;
+    answer::deliver(0, &work[..end], out)
 }
 
 // ---- opening
@@ -152,7 +150,7 @@ fn accept_aes(number: u16, mac: [u8; 8], wanted: [u8; 8], payload: &[u8], out: &
     ensures { Meets (aes_accepting number mac wanted payload.now (length out.old)) result out.old out.new }
 {
     if !cipher::ct_eq(&mac, &wanted) {
-        return answer::refused(13);
+        return Err(Refusal::MacDiffers);
     }
     answer::deliver(number, payload, out)
 }
@@ -161,47 +159,25 @@ fn accept_aes(number: u16, mac: [u8; 8], wanted: [u8; 8], payload: &[u8], out: &
 fn decrypt_in_work_block(
     code: u8,
     id: [u8; 6],
-    credentials: &[u8],
+    credentials: Credentials,
     data: &[u8],
     out: &mut [u8],
 ) -> Answer
-    requires credentials_len { length credentials.now ≡ 36 }
     requires in_bounds { 10 ≤ length «data».now }
     requires data_len_bound { length «data».now ≤ 253 }
-    ensures { Meets (aes_trying credentials.now code id «data».now (length out.old)) result out.old out.new }
+    ensures { Meets (aes_trying (bytes_of credentials) code id «data».now (length out.old)) result out.old out.new }
 {
     let n = data.len() - 10;
     let end = n + 2;
-    let low = data[0];
-    let high = data[1];
     let number = answer::transaction_number(data);
-    let iv = build_initial_vector_v2_aes128(n, code, [low, high], id, challenge_3c(credentials));
+    let iv = build_initial_vector_v2_aes128(n, code, number, id, credentials.challenge_3c);
     let mut work = [0u8; 256];
-    cipher::copy(&data[2..end], &mut work);
-    let mut mac = answer::eight(&data[end..]);
-    cipher::apply_aes128_ofb_parts(&mut work[..n], &mut mac, cipher_key(credentials), iv);
+    work[..n].copy_from_slice(&data[2..end]);
+    let mut mac = answer::fit(&data[end..]);
+    cipher::apply_aes128_ofb_parts(&mut work[..n], &mut mac, credentials.cipher_key, iv);
     let payload = &work[..n];
-    let wanted = calculate_mac_v2_aes128(iv, payload, mac_key(credentials));
+    let wanted = calculate_mac_v2_aes128(iv, payload, credentials.mac_key);
     accept_aes(number, mac, wanted, payload, out)
-}
-
-// 17, 11 and 12 of opening, from lengths; 0 to go on.
-fn guard_open_aes(id: usize, credentials: usize, sealed: usize) -> u8
-    ensures { result ≡ first_of (aes_open_rows id credentials sealed) }
-{
-    if id != 6 {
-        return 17;
-    }
-    if credentials != 36 {
-        return 17;
-    }
-    if sealed < 10 {
-        return 11;
-    }
-    if 253 < sealed {
-        return 12;
-    }
-    0
 }
 
 // Opens a command or a response. The credentials are those of sealing.
@@ -214,11 +190,15 @@ pub fn decrypt_secure_response_v2_aes128(
 ) -> Answer
     ensures { Meets (aes_opening credentials.now code id.now «data».now (length out.old)) result out.old out.new }
 {
-    let refusal = guard_open_aes(id.len(), credentials.len(), data.len());
-    if refusal != 0 {
-        return answer::refused(refusal);
+    let id = answer::exact::<6>(id)?;
+    let credentials = Credentials::parse(credentials)?;
+    if data.len() < 10 {
+        return Err(Refusal::TooShort);
     }
-    decrypt_in_work_block(code, answer::six(id), credentials, data, out)
+    if 253 < data.len() {
+        return Err(Refusal::TooLong);
+    }
+    decrypt_in_work_block(code, id, credentials, data, out)
 }
 
 // Opens an Authentication 2 response.
@@ -244,19 +224,8 @@ pub fn build_secure_response_frame_v2_aes128(
 ) -> Answer
     ensures { Meets (responding 2 credentials.now code number id.now payload.now (length out.old)) result out.old out.new }
 {
-    let refusal = guard_seal_aes(id.len(), credentials.len(), payload.len());
-    if refusal != 0 {
-        return answer::refused(refusal);
-    }
     let mut work = [0u8; 256];
-    let sealed = write_aes(
-        code,
-        number,
-        answer::six(id),
-        credentials,
-        payload,
-        &mut work[2..],
-    );
+    let sealed = seal_aes(code, number, id, credentials, payload, &mut work[2..])?;
     let end = command::frame_with_length_prefix(code, sealed, &mut work);
-    answer::deliver(0, &work[0..end], out)
+    answer::deliver(0, &work[..end], out)
 }

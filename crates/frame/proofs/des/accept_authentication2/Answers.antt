@@ -1,21 +1,20 @@
-use mathlib.Core.Path.{sym, ◌∙◌}
+use mathlib.Core.Path.{refl, sym, ◌∙◌}
 use Prim.Native.Nat.{◌-◌}
 use native.Mathlib.Omega.{arith}
 use lib.ListN.{length}
-use Rattle.answer.proofs.Rows.{refused_meets, delivers_meets}
+use Rattle.answer.proofs.Rows.{err_meets, delivers_meets}
 use Rattle.frame.proofs.Authentications.{no_block, wrong_mac, right_mac}
 use Rattle.answer.proofs.Pieces.{no_longer}
+use Rattle.frame.proofs.des.accept_authentication2.Goals.{then-plain-lt16-via-then-plain-lt16, then-plain-lt16-via-else-plain-lt16+then-not-check_packet_mac_des}
 use Rattle.frame.proofs.des.accept_authentication2.Goals as goal
 
 pub returns-then-plain-lt16 : goal.returns-then-plain-lt16
 returns-then-plain-lt16 c =
     let a = c.args in
-    rw (no_block a.plain.now (length a.out.now) c.if-plain-lt16.true) (refused_meets 13 _ a.out.now c.refused.ensures)
-
-pub returns-then-not-check_packet_mac_des : goal.returns-then-not-check_packet_mac_des
-returns-then-not-check_packet_mac_des c =
-    let a = c.args in
-    rw (wrong_mac a.plain.now (length a.out.now) c.if-plain-lt16.false (sym c.check_packet_mac_des.ensures ∙ c.if-not-check_packet_mac_des.true)) (refused_meets 13 _ a.out.now c.refused-then-not-check_packet_mac_des.ensures)
+    elim c.then-plain-lt16.branch [
+      | then-plain-lt16-via-then-plain-lt16 w ↦ rw (no_block a.plain.now (length a.out.now) w.if-plain-lt16.true) (err_meets _ a.out.now refl)
+      | then-plain-lt16-via-else-plain-lt16+then-not-check_packet_mac_des w ↦ rw (wrong_mac a.plain.now (length a.out.now) w.if-plain-lt16.false (sym w.check_packet_mac_des.ensures ∙ w.if-not-check_packet_mac_des.true)) (err_meets _ a.out.now refl)
+    ]
 
 pub returns : goal.returns
 returns c =

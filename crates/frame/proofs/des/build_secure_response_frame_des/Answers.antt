@@ -1,47 +1,24 @@
-use mathlib.Core.Path.{◌≡◌, sym, ap, ap₂, ◌∙◌}
-use Prim.Native.Nat.{ℕ, ◌-◌}
+use mathlib.Core.Path.{refl, ◌∙◌}
 use native.Mathlib.Omega.{arith}
-use mathlib.Core.List.{List}
-use lib.ListN.{length, take, replicate}
-use Rattle.frame.specs.Scheme.{framed}
+use borrow.Author.Rules.{rules}
+use lib.ListN.{length, replicate}
+use Rattle.answer.specs.Tests.{both}
+use Rattle.answer.proofs.Rows.{numbered}
 use Rattle.frame.specs.DesFrame.{des_sealed, des_size, seal_rows}
-use Rattle.frame.proofs.DesSeals.{seal_passes}
-use Rattle.frame.proofs.WorkBlocks.{guarded_frame, delivered_frame, behind_two, frame_front, des_frame_steps}
+use Rattle.frame.proofs.WorkBlocks.{refused_frame, delivered_frame, frame_front, des_frame_steps}
 use Rattle.frame.proofs.des.build_secure_response_frame_des.Goals as goal
 
-pub returns-then-refusal-ne0 : goal.returns-then-refusal-ne0
-returns-then-refusal-ne0 c =
+pub returns-in_err-sealed : goal.returns-in_err-sealed
+returns-in_err-sealed c =
     let a = c.args in
-    rw (des_frame_steps a.key.now a.id.now a.payload.now a.code a.number (length a.out.now))
-    (guarded_frame (seal_rows (length a.id.now) (length a.key.now) (length a.payload.now)) (des_sealed a.key.now a.code a.number a.id.now a.payload.now) (des_size (length a.payload.now)) _ a.out.now a.out.now a.code _ (length a.out.now - 2) c.guard_seal_des-refusal.ensures c.if-refusal-ne0.true c.refused.ensures)
-
-pub write_des-sealed-requires : goal.write_des-sealed-requires
-write_des-sealed-requires c =
-    let p = seal_passes _ _ _ _ c.guard_seal_des-refusal.ensures c.if-refusal-ne0.false in
-    record { payload_len_bound = p.short; payload_in_bounds = omega (arith, p.fits) }
-
-pub slice_bounds-frame_with_length_prefix-end : goal.slice_bounds-frame_with_length_prefix-end
-slice_bounds-frame_with_length_prefix-end c = behind_two c.write_des-sealed.new.out c.write_des-sealed.auto.out
-
-pub frame_with_length_prefix-end-requires : goal.frame_with_length_prefix-end-requires
-frame_with_length_prefix-end-requires c =
-    let p = seal_passes _ _ _ _ c.guard_seal_des-refusal.ensures c.if-refusal-ne0.false in
-    record { sealed_bound = omega (arith, p.fits, c.write_des-sealed.ensures.0); in_bounds = omega arith }
-
-pub slice_bounds-deliver-end : goal.slice_bounds-deliver-end
-slice_bounds-deliver-end c =
-    let p = seal_passes _ _ _ _ c.guard_seal_des-refusal.ensures c.if-refusal-ne0.false in
-    omega (arith, p.fits, c.write_des-sealed.ensures.0, c.frame_with_length_prefix-end.ensures.0)
+    rw (des_frame_steps a.key.now a.id.now a.payload.now a.code a.number (length a.out.now)) (refused_frame _ _ _ a.code _ c.in_err-sealed.field-0.0 a.out.now (search rules) c.in_err-sealed.ensures)
 
 pub returns : goal.returns
+unfolding numbered both seal_rows des_size
 returns c =
     let a = c.args in
-    let p = a.payload.now in
-    let o = a.out.now in
-    let h = seal_passes _ _ _ _ c.guard_seal_des-refusal.ensures c.if-refusal-ne0.false in
-    let b : des_sealed c.eight.result a.code a.number c.six.result p ≡ des_sealed a.key.now a.code a.number a.id.now p = ap₂ (λ (k ⟦After-guard_seal_des⟧ : List ℕ). des_sealed k a.code a.number ⟦After-guard_seal_des⟧ p) (c.eight.ensures.1 h.eight) (c.six.ensures.1 h.six) in
+    let s = c.in_ok-sealed.ensures in
     let t = c.frame_with_length_prefix-end.ensures in
-    let v = c.frame_with_length_prefix-end.new.out in
-    rw (des_frame_steps a.key.now a.id.now a.payload.now a.code a.number (length o))
-    (delivered_frame (seal_rows (length a.id.now) (length a.key.now) (length a.payload.now)) (des_sealed a.key.now a.code a.number a.id.now p) _ _ o _ v c.frame_with_length_prefix-end.result h.rows (sym c.write_des-sealed.ensures.0 ∙ c.write_des-sealed.ensures.1 ∙ ap length b) (omega (arith, h.fits)) a.code (length o) h.some
-    (ap (λ (k : ℕ). take k v) t.0 ∙ frame_front _ a.code (des_sealed c.eight.result a.code a.number c.six.result p) (replicate 256 0) _ _ _ _ c.write_des-sealed.ensures.1 (omega arith) c.write_des-sealed.ensures.2 t.1 ∙ ap (framed a.code) b) c.deliver.ensures)
+    rw (des_frame_steps a.key.now a.id.now a.payload.now a.code a.number (length a.out.now))
+    (delivered_frame (seal_rows (length a.id.now) (length a.key.now) (length a.payload.now)) (des_sealed a.key.now a.code a.number a.id.now a.payload.now) (des_size (length a.payload.now)) refl _ _ _ s (length a.out.now) a.code _ (omega arith)
+    (frame_front _ a.code _ (replicate 256 0) _ _ _ _ (s.1 ∙ s.3) (omega arith) s.4 t.1) (rw t.0 at c.deliver.ensures))

@@ -9,4 +9,4 @@ pub returns : goal.returns
 returns c =
     let p = c.args.plain.now in
     let l : length (take (length p - (length p - 8)) (drop (length p - 8) p)) ≡ 8 = rw (rest_part p (length p - 8), length-drop) (omega (arith, c.requires)) in
-    mac_checked c.args.code c.args.plain.now _ _ _ _ (c.eight-mac.ensures.1 l) c.decrypt_des_under_each-recovered.ensures c.mac_start-start.ensures c.ct_eq.ensures
+    mac_checked c.args.code c.args.plain.now _ _ _ _ (c.fit-mac.ensures.1 l) c.decrypt_des_under_each-recovered.ensures c.mac_start-start.ensures c.ct_eq.ensures

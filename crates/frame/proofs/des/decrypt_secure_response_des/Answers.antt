@@ -1,52 +1,58 @@
-use mathlib.Core.Path.{◌≡◌, sym, ap, ◌∙◌}
+use mathlib.Core.Path.{◌≡◌, refl, ap, ◌∙◌}
 use Prim.Native.Nat.{ℕ}
-use native.Mathlib.Omega.{arith}
+use borrow.Author.Rules.{rules}
+use borrow.Author.Tests.{eq-eqb, ne_eqb, lt-ltb, le-ltb}
 use mathlib.Core.List.{List}
 use lib.ListN.{length, take, replicate}
-use lib.Seq.{length-take-le}
+use Rattle.answer.specs.Outcome.{choose, first_of}
+use Rattle.answer.specs.Tests.{isnt, either}
 use Rattle.frame.specs.DesFrame.{des_plain, open_rows}
-use Rattle.answer.proofs.Rows.{guard_meets, passed_meets}
+use Rattle.answer.proofs.Rows.{first_17, second_17, row_meets, passed_meets}
 use Rattle.answer.proofs.Outputs.{front}
-use Rattle.frame.proofs.DesOpens.{open_passes, open_steps}
+use Rattle.frame.proofs.DesOpens.{open_none, open_steps}
 use Rattle.frame.proofs.des.decrypt_secure_response_des.Goals as goal
 
-pub returns-then-refusal-ne0 : goal.returns-then-refusal-ne0
-returns-then-refusal-ne0 c =
+pub returns-in_err-id : goal.returns-in_err-id
+unfolding open_rows
+returns-in_err-id c =
+    let a = c.args in
+    rw (open_steps a.key.now a.id.now a.«data».now a.code (length a.out.now)) (row_meets _ _ c.in_err-id.field-0.0 a.out.now (search rules) (first_17 _ _ 6 8 _ _ c.in_err-id.ensures))
+
+pub returns-in_err-key : goal.returns-in_err-key
+unfolding open_rows
+returns-in_err-key c =
+    let a = c.args in
+    rw (open_steps a.key.now a.id.now a.«data».now a.code (length a.out.now)) (row_meets _ _ c.in_err-key.field-0.0 a.out.now (search rules) (second_17 _ _ 6 8 _ _ c.in_err-key.ensures))
+
+pub returns-then-n-ne0 : goal.returns-then-n-ne0
+unfolding open_rows first_of choose isnt either
+returns-then-n-ne0 c =
     let a = c.args in
     rw (open_steps a.key.now a.id.now a.«data».now a.code (length a.out.now))
-    (guard_meets (open_rows (length a.id.now) (length a.key.now) (length a.«data».now)) _ _ _ a.out.now c.guard_open_des-refusal.ensures c.if-refusal-ne0.true c.refused.ensures)
+    (row_meets (open_rows (length a.id.now) (length a.key.now) (length a.«data».now)) _ _ a.out.now refl (rw (eq-eqb _ _ c.in_ok-id.ensures.0, eq-eqb _ _ c.in_ok-key.ensures.0, ne_eqb _ _ c.if-n-ne0.true)))
 
-pub decrypt_over-requires : goal.decrypt_over-requires
-decrypt_over-requires c =
-    let o = open_passes _ _ _ _ c.guard_open_des-refusal.ensures c.if-refusal-ne0.false in
-    let h = o.short in
-    record { data_len = o.blocks; data_in_bounds = omega arith }
+pub returns-then-n-lt16 : goal.returns-then-n-lt16
+unfolding open_rows first_of choose isnt either
+returns-then-n-lt16 c =
+    let a = c.args in
+    rw (open_steps a.key.now a.id.now a.«data».now a.code (length a.out.now))
+    (row_meets (open_rows (length a.id.now) (length a.key.now) (length a.«data».now)) _ _ a.out.now refl (rw (eq-eqb _ _ c.in_ok-id.ensures.0, eq-eqb _ _ c.in_ok-key.ensures.0, eq-eqb _ _ c.if-n-ne0.false, lt-ltb _ _ c.if-n-lt16.true)))
 
-pub slice_bounds-work-end : goal.slice_bounds-work-end
-slice_bounds-work-end c =
-    let h = (open_passes _ _ _ _ c.guard_open_des-refusal.ensures c.if-refusal-ne0.false).short in
-    omega arith
-
-pub slice_bounds-accept_des-end : goal.slice_bounds-accept_des-end
-slice_bounds-accept_des-end c =
-    let h = (open_passes _ _ _ _ c.guard_open_des-refusal.ensures c.if-refusal-ne0.false).short in
-    sym (length-take-le _ _ (omega arith))
-
-pub accept_des-requires : goal.accept_des-requires
-accept_des-requires c =
-    let p = open_passes _ _ _ _ c.guard_open_des-refusal.ensures c.if-refusal-ne0.false in
-    let h = p.short in
-    let m = p.enough in
-    let e = length-take-le (length c.args.«data».now) c.decrypt_over.new.work (omega arith) in
-    record { id_len = p.six; in_bounds = omega (arith, e); plain_len_bound = omega (arith, e) }
+pub returns-then-n-gt253 : goal.returns-then-n-gt253
+unfolding open_rows first_of choose isnt either
+returns-then-n-gt253 c =
+    let a = c.args in
+    rw (open_steps a.key.now a.id.now a.«data».now a.code (length a.out.now))
+    (row_meets (open_rows (length a.id.now) (length a.key.now) (length a.«data».now)) _ _ a.out.now refl (rw (eq-eqb _ _ c.in_ok-id.ensures.0, eq-eqb _ _ c.in_ok-key.ensures.0, eq-eqb _ _ c.if-n-ne0.false, le-ltb _ _ c.if-n-lt16.false, lt-ltb _ _ c.if-n-gt253.true)))
 
 pub returns : goal.returns
 returns c =
     let a = c.args in
     let d = a.«data».now in
+    let i = c.in_ok-id.ensures in
+    let k = c.in_ok-key.ensures in
     let p : take (length d) c.decrypt_over.new.work ≡ des_plain a.key.now d =
-    front (des_plain c.eight.result d) (replicate 256 0) c.decrypt_over.new.work (length d) c.decrypt_over.ensures.0 c.decrypt_over.ensures.1
-    ∙ ap (λ (k : List ℕ). des_plain k d) (c.eight.ensures.1 (open_passes _ _ _ _ c.guard_open_des-refusal.ensures c.if-refusal-ne0.false).eight) in
+    front (des_plain c.in_ok-key.key d) (replicate 256 0) c.decrypt_over.new.work (length d) c.decrypt_over.ensures.0 c.decrypt_over.ensures.1 ∙ ap (λ (k : List ℕ). des_plain k d) k.1 in
     rw (open_steps a.key.now a.id.now d a.code (length a.out.now))
-    (passed_meets (open_rows (length a.id.now) (length a.key.now) (length d)) _ _ a.out.now _ (open_passes _ _ _ _ c.guard_open_des-refusal.ensures c.if-refusal-ne0.false).rows
-    (rw p at c.accept_des.ensures))
+    (passed_meets _ _ _ a.out.now _ (open_none (length a.id.now) (length a.key.now) (length d) i.0 k.0 c.if-n-ne0.false c.if-n-lt16.false c.if-n-gt253.false)
+    (rw p at (rw i.1 at c.accept_des.ensures)))

@@ -1,46 +1,65 @@
 use mathlib.Core.Path.{◌≡◌, refl, sym, ap, ◌∙◌}
-use Prim.Native.Nat.{ℕ, ◌+◌, ◌≤◌}
+use Prim.Native.Nat.{ℕ, ◌+◌, ◌≤◌, ◌<◌}
 use native.Mathlib.Omega.{arith}
-use mathlib.Core.List.{List}
-use lib.ListN.{length, replicate}
-use Rattle.answer.proofs.Outputs.{front, copied_over}
+use borrow.Author.Rules.{rules}
+use borrow.Author.Tests.{eq-eqb, lt-ltb, le-ltb}
+use mathlib.Core.List.{List, ◌++◌}
+use lib.ListN.{length, take, drop, replicate}
+use lib.Seq.{length_front, length-take-le}
+use Rattle.answer.specs.Outcome.{choose, first_of, over}
+use Rattle.answer.specs.Tests.{isnt, both}
+use Rattle.answer.proofs.Outputs.{placed_over}
+use Rattle.answer.proofs.Rows.{numbered, one_17, row_meets}
 use Rattle.frame.specs.Authentication2.{auth2_code, auth2_seal_rows, auth2_size, auth2_sealed}
 use Rattle.frame.specs.DesFrame.{des_seal}
 use Rattle.frame.specs.Padding.{pad_count, pad}
-use Rattle.frame.proofs.Authentications.{auth2_seal_passes, auth2_seal_steps}
+use Rattle.frame.proofs.Authentications.{short_padded, auth2_seal_steps}
 use Rattle.frame.proofs.DesSeals.{sealed_over}
-use Rattle.frame.proofs.WorkBlocks.{guarded, delivered}
+use Rattle.frame.proofs.WorkBlocks.{delivered}
 use Rattle.frame.proofs.des.encrypt_authentication2_payload.Goals as goal
 
-pub returns-then-refusal-ne0 : goal.returns-then-refusal-ne0
-returns-then-refusal-ne0 c =
+pub returns-in_err-key : goal.returns-in_err-key
+unfolding auth2_seal_rows
+returns-in_err-key c =
     let a = c.args in
+    rw (auth2_seal_steps a.key.now a.payload.now (length a.out.now)) (row_meets _ _ c.in_err-key.field-0.0 a.out.now (search rules) (one_17 _ 8 _ _ c.in_err-key.ensures))
+
+pub returns-then-n-gt240 : goal.returns-then-n-gt240
+unfolding auth2_seal_rows first_of choose isnt
+returns-then-n-gt240 c =
+    let a = c.args in
+    let n = length a.payload.now in
+    let h : 240 < n + pad_count n = omega arith in
     rw (auth2_seal_steps a.key.now a.payload.now (length a.out.now))
-    (guarded (auth2_seal_rows (length a.key.now) (length a.payload.now)) (auth2_sealed a.key.now a.payload.now) (auth2_size (length a.payload.now)) _ a.out.now a.out.now _ (length a.out.now) c.guard_authentication2_seal-refusal.ensures c.if-refusal-ne0.true c.refused.ensures)
+    (row_meets (auth2_seal_rows (length a.key.now) n) _ _ a.out.now refl (rw (eq-eqb _ _ c.in_ok-key.ensures.0, lt-ltb _ _ h)))
+
+-- what was sealed in a work block of 256 bytes is inside it
+fits : (payload first : List ℕ) (n : ℕ) (w : List ℕ) → length first ≡ length (take n (replicate {A = ℕ} 256 0)) → length w ≡ length (first ++ drop n (replicate {A = ℕ} 256 0)) → length payload + pad_count (length payload) ≤ 240
+    → (end : ℕ) → end ≡ length payload + pad_count (length payload) + 8 → end ≤ length w
+fits payload first n w l m h end e =
+    let z : List ℕ = replicate 256 0 in
+    let k : length (first ++ drop n z) ≡ 256 = length_front z first n l in
+    omega arith
 
 pub seal_front-end-requires : goal.seal_front-end-requires
-seal_front-end-requires c =
-    let h = (auth2_seal_passes _ _ _ c.guard_authentication2_seal-refusal.ensures c.if-refusal-ne0.false).short in
-    omega (arith, h)
+seal_front-end-requires c = rw (length_front (replicate 256 0) c.copy_from_slice.new.self _ c.copy_from_slice.auto.self) (omega (arith, short_padded _ c.if-n-gt240.false))
 
 pub slice_bounds-deliver-end : goal.slice_bounds-deliver-end
-slice_bounds-deliver-end c =
-    let h = (auth2_seal_passes _ _ _ c.guard_authentication2_seal-refusal.ensures c.if-refusal-ne0.false).short in
-    omega (arith, h, c.seal_front-end.ensures.0)
+slice_bounds-deliver-end c = sym (length-take-le _ _ (fits c.args.payload.now c.copy_from_slice.new.self _ c.seal_front-end.new.out c.copy_from_slice.auto.self c.seal_front-end.auto.out (short_padded _ c.if-n-gt240.false) _ c.seal_front-end.ensures.0))
+
+pub slice_bounds-work-end-2 : goal.slice_bounds-work-end-2
+slice_bounds-work-end-2 c = fits c.args.payload.now c.copy_from_slice.new.self _ c.seal_front-end.new.out c.copy_from_slice.auto.self c.seal_front-end.auto.out (short_padded _ c.if-n-gt240.false) _ c.seal_front-end.ensures.0
 
 pub returns : goal.returns
-unfolding auth2_sealed auth2_size
+unfolding auth2_sealed auth2_size auth2_seal_rows numbered both first_of choose isnt
 returns c =
     let a = c.args in
     let p = a.payload.now in
     let o = a.out.now in
-    let h = auth2_seal_passes _ _ _ c.guard_authentication2_seal-refusal.ensures c.if-refusal-ne0.false in
-    let fits : length p ≤ 256 = omega (arith, h.short) in
-    let q = sealed_over auth2_code (length p) _ c.eight.result p (replicate 256 0) _ _ refl (copied_over p (replicate 256 0) _ fits c.copy.ensures) c.seal_front-end.ensures in
-    let v = c.seal_front-end.new.out in
-    let part = front (des_seal c.eight.result auth2_code (pad p)) (replicate 256 0) v c.seal_front-end.result (sym q.0) q.1 in
-    let b : des_seal c.eight.result auth2_code (pad p) ≡ des_seal a.key.now auth2_code (pad p) = ap (λ (k : List ℕ). des_seal k auth2_code (pad p)) (c.eight.ensures.1 h.eight) in
+    let k = c.in_ok-key.ensures in
+    let l = short_padded _ c.if-n-gt240.false in
+    let q = sealed_over auth2_code (length p) _ c.in_ok-key.key p (replicate 256 0) _ _ refl (placed_over p (replicate 256 0) _ (length p) refl c.copy_from_slice.ensures.after) c.seal_front-end.ensures in
+    let b : des_seal c.in_ok-key.key auth2_code (pad p) ≡ des_seal a.key.now auth2_code (pad p) = ap (λ (k : List ℕ). des_seal k auth2_code (pad p)) k.1 in
     rw (auth2_seal_steps a.key.now p (length o))
-    (delivered (auth2_seal_rows (length a.key.now) (length p)) (des_seal a.key.now auth2_code (pad p)) (length p + pad_count (length p) + 8) _ o _ v c.seal_front-end.result h.rows
-    (sym c.seal_front-end.ensures.0 ∙ q.0 ∙ ap length b) (omega (arith, h.short)) (length o)
-    (part ∙ b) c.deliver.ensures)
+    (delivered (auth2_seal_rows (length a.key.now) (length p)) (des_seal a.key.now auth2_code (pad p)) (length p + pad_count (length p) + 8) refl c.seal_front-end.result (replicate 256 0) c.seal_front-end.new.out
+    (rw (eq-eqb _ _ k.0, le-ltb _ _ l), c.seal_front-end.ensures.0, omega arith, sym c.seal_front-end.ensures.0 ∙ q.0 ∙ ap length b, q.1 ∙ ap (λ (z : List ℕ). over z (replicate 256 0)) b) (length o) c.deliver.ensures)

@@ -1,19 +1,19 @@
+use mathlib.Core.Path.{◌≡◌, ap, sym, ◌∙◌}
+use borrow.Author.Rules.{rules}
+use Rattle.answer.specs.Scheme.{mark_of}
+use Rattle.answer.proofs.Rows.{err_meets}
 use Rattle.frame.specs.Scheme.{opening}
-use Rattle.answer.proofs.Rows.{refused_meets}
-use Rattle.frame.proofs.Schemes.{mark_des, mark_aes, mark_unknown}
+use Rattle.frame.proofs.Schemes.{mark_des, mark_aes, mark_17}
 use Rattle.frame.proofs.secure.decrypt_response.Goals as goal
 
-pub returns-then-scheme-eq-DES : goal.returns-then-scheme-eq-DES
+pub returns-in_err-try_from : goal.returns-in_err-try_from
 unfolding opening
-returns-then-scheme-eq-DES c =
-    rw (mark_des _ _ _ c.if-scheme-eq-DES.true) c.decrypt_secure_response_des.ensures
+returns-in_err-try_from c = mark_17 _ _ _ c.in_err-try_from.field-0.0 _ (search rules) c.in_err-try_from.ensures
 
-pub returns-then-scheme-eq-AES128 : goal.returns-then-scheme-eq-AES128
+pub returns-in-Des : goal.returns-in-Des
 unfolding opening
-returns-then-scheme-eq-AES128 c =
-    rw (mark_aes _ _ _ c.if-scheme-eq-AES128.true) c.decrypt_secure_response_v2_aes128.ensures
+returns-in-Des c = rw (mark_des _ _ _ (sym c.in_ok-try_from.ensures ∙ ap mark_of c.in-Des.is)) c.decrypt_secure_response_des.ensures
 
-pub returns : goal.returns
+pub returns-in-Aes128 : goal.returns-in-Aes128
 unfolding opening
-returns c =
-    rw (mark_unknown _ _ _ c.if-scheme-eq-DES.false c.if-scheme-eq-AES128.false) (refused_meets 17 _ _ c.refused.ensures)
+returns-in-Aes128 c = rw (mark_aes _ _ _ (sym c.in_ok-try_from.ensures ∙ ap mark_of c.in-Aes128.is)) c.decrypt_secure_response_v2_aes128.ensures

@@ -6,4 +6,4 @@ use Rattle.frame.proofs.v2_aes.calculate_mac_v2_aes128.Goals as goal
 pub returns : goal.returns
 returns c =
     let a = c.args in
-    mac_made a.mac_key a.iv a.payload.now _ _ (omega arith) c.aes128_cmac_after_block-full.ensures (c.eight.ensures.1 (search rules))
+    mac_made a.mac_key a.iv a.payload.now _ _ (omega arith) c.aes128_cmac_after_block-full.ensures (c.fit.ensures.1 (search rules))
