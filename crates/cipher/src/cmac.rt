@@ -58,7 +58,7 @@ fn double(x: [u8; 16]) -> [u8; 16]
     ensures { result ≡ double 16 R128 x }
 {
     let low = carry(x[0]);
-    bytes::xor_blocks16(shift_left(x), last_byte(low))
+    bytes::xor_blocks(shift_left(x), last_byte(low))
 }
 
 // The bytes of s from index at on, a byte 0x80, and zeros.
@@ -83,12 +83,12 @@ fn last_block(keys: &KeySchedule, s: &[u8], at: usize) -> [u8; 16]
     let l = keys.encrypt_block([0u8; 16]);
     let k1 = double(l);
     if s.len() - at == 16 {
-        let whole = bytes::load16(s, at);
-        return bytes::xor_blocks16(k1, whole);
+        let whole = bytes::load(s, at);
+        return bytes::xor_blocks(k1, whole);
     }
     let k2 = double(k1);
     let short = padded(s, at);
-    bytes::xor_blocks16(k2, short)
+    bytes::xor_blocks(k2, short)
 }
 
 // The MAC from the state start on (6.2, steps 5 and 6).
@@ -98,14 +98,14 @@ fn mac_from(keys: &KeySchedule, start: [u8; 16], s: &[u8]) -> [u8; 16]
     let mut state = start;
     let mut at = 0;
     while 16 < s.len() - at {
-        let block = bytes::load16(s, at);
-        let input = bytes::xor_blocks16(state, block);
+        let block = bytes::load(s, at);
+        let input = bytes::xor_blocks(state, block);
         let next = keys.encrypt_block(input);
         state = next;
         at += 16;
     }
     let last = last_block(keys, s, at);
-    let input = bytes::xor_blocks16(state, last);
+    let input = bytes::xor_blocks(state, last);
     keys.encrypt_block(input)
 }
 

@@ -15,7 +15,7 @@ fn encrypt_des_each(sp: &[u32], pc2: &[u32], block: [u8; 8], keys: &[u8]) -> [u8
     let mut state = block;
     let mut at = 0;
     while 8 <= keys.len() - at {
-        let key = bytes::load8(keys, at);
+        let key = bytes::load(keys, at);
         let next = des::encrypt_once(sp, pc2, state, key);
         state = next;
         at += 8;
@@ -32,7 +32,7 @@ fn decrypt_des_each(sp: &[u32], pc2: &[u32], block: [u8; 8], keys: &[u8]) -> [u8
     let mut at = keys.len() / 8 * 8;
     while 0 < at {
         at -= 8;
-        let key = bytes::load8(keys, at);
+        let key = bytes::load(keys, at);
         let next = des::decrypt_once(sp, pc2, state, key);
         state = next;
     }
@@ -64,7 +64,7 @@ pub fn encrypt_aes128_under_each(block: [u8; 16], keys: &[u8]) -> [u8; 16]
     let mut state = block;
     let mut at = 0;
     while 16 <= keys.len() - at {
-        let key = bytes::load16(keys, at);
+        let key = bytes::load(keys, at);
         let next = aes::encrypt_aes128_block(state, key);
         state = next;
         at += 16;

@@ -12,7 +12,7 @@ fn add_at(s: &mut [u8], at: usize, output: [u8; 16])
     requires { at ≤ length s.old }
     ensures { s.new ≡ take at s.old ++ (take 16 (drop at s.old) ⊕ output) ++ drop (at + 16) s.old }
 {
-    bytes::xor_into(&mut s[at..], output);
+    bytes::xor_into(&mut s[at..], &output);
 }
 
 // Goes through data and returns the input block of the block that would come next.
