@@ -4,4 +4,4 @@ use Rattle.cipher.proofs.aes.Columns.store.Goals as goal
 
 pub returns : goal.returns
 unfolding words_bytes word_bytes
-returns c = rw (c.to_be_bytes-a.ensures, c.to_be_bytes-b.ensures, c.to_be_bytes-c.ensures, c.to_be_bytes-d.ensures)
+returns c = rw (c.to_be_bytes.ensures, c.to_be_bytes-2.ensures, c.to_be_bytes-3.ensures, c.to_be_bytes-4.ensures)
