@@ -9,11 +9,45 @@ use lib.Dec.{T, eqb, eqb→eq}
 use lib.ListN.{length, get_or, replicate}
 use Rattle.cipher.specs.Bytes.{tab, word_bytes}
 use Rattle.cipher.specs.Fips197.{xtime, if_bit, add_times, ◌•◌, times_squares, inverse, bit, from_bits, affine, s_box, inv_affine, inv_s_box}
-use Rattle.cipher.specs.inner.AesTables.{MixTable, TeTable, UTable, InvSTable}
+use Rattle.cipher.specs.inner.AesTables.{multiples}
 use Rattle.cipher.proofs.Table.{both, both_left, both_right, every, at, below}
 use Rattle.cipher.proofs.Words.{◌◂◌}
 use Rattle.cipher.proofs.AesBytes.{inverse_byte, s_box_byte, inv_affine_byte, inv_s_box_byte}
-use Rattle.cipher.proofs.AesColumns.{te_second}
+
+-- ---- the rules of tables
+
+-- word x of the table is the product of the circulant matrix whose first row is a0 a1 a2 a3 with the column f x, 0, 0, 0
+pub record MixTable (a0 a1 a2 a3 : ℕ) (f : ℕ → ℕ) (t : List ℕ) : Type 0 where
+  pub size : length t ≡ 256
+  pub entry : (x : ℕ) → x < 256 → word_bytes (get_or t x 0) ≡ multiples a0 a1 a2 a3 (f x)
+
+-- entry x of the table is f x
+pub record ByteTable (f : ℕ → ℕ) (t : List ℕ) : Type 0 where
+  pub size : length t ≡ 256
+  pub entry : (x : ℕ) → x < 256 → get_or t x 0 ≡ f x
+
+-- SubBytes and MixColumns in one; its second byte is the S-box
+abbrev pub TeTable : List ℕ → Type 0
+TeTable = MixTable 0x02 0x03 0x01 0x01 s_box
+
+-- InvMixColumns
+abbrev pub UTable : List ℕ → Type 0
+UTable = MixTable 0x0e 0x0b 0x0d 0x09 (λ x. x)
+
+abbrev pub InvSTable : List ℕ → Type 0
+InvSTable = ByteTable inv_s_box
+
+unit : (x : ℕ) → 1 • x ≡ x
+unfolding ◌•◌ add_times if_bit
+unit x = refl
+
+-- the second byte of a word of multiples
+pub second_byte : (w x : ℕ) → word_bytes w ≡ multiples 0x02 0x03 0x01 0x01 x → w / 65536 % 256 ≡ x
+unfolding word_bytes multiples
+second_byte w x e = ap (λ (l : List ℕ). get_or l 1 0) e ∙ unit x
+
+te_second : (t : List ℕ) → TeTable t → (x : ℕ) → x < 256 → get_or t x 0 / 65536 % 256 ≡ s_box x
+te_second t m x h = second_byte (get_or t x 0) (s_box x) (m.entry x h)
 
 -- ---- the lists of the code's `TE`, `U` and `INV_S`
 
@@ -133,8 +167,8 @@ four_bytes : ℕ → ℕ → ℕ → ℕ → ℕ → ℕ → Bool
 four_bytes a0 a1 a2 a3 y x =
     both (eqb (x / 16777216 % 256) (a0 • y)) (both (eqb (x / 65536 % 256) (a3 • y)) (both (eqb (x / 256 % 256) (a2 • y)) (eqb (x % 256) (a1 • y))))
 
-four_bytes_lem : (a0 a1 a2 a3 y x : ℕ) → T (four_bytes a0 a1 a2 a3 y x) → word_bytes x ≡ a0 • y ∷ a3 • y ∷ a2 • y ∷ a1 • y ∷ []
-unfolding four_bytes word_bytes
+four_bytes_lem : (a0 a1 a2 a3 y x : ℕ) → T (four_bytes a0 a1 a2 a3 y x) → word_bytes x ≡ multiples a0 a1 a2 a3 y
+unfolding four_bytes word_bytes multiples
 four_bytes_lem a0 a1 a2 a3 y x p =
     let t0 : Bool = eqb (x / 16777216 % 256) (a0 • y) in
     let t1 : Bool = eqb (x / 65536 % 256) (a3 • y) in

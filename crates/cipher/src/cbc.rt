@@ -17,10 +17,10 @@ fn encrypt_blocks(data: &mut [u8], sp: &[u32], ks: &[u64])
     let mut before = [0u8; 8];
     let mut at = 0;
     while at < data.len() {
-        let plain = bytes::load8(data, at);
+        let plain = bytes::load(data, at);
         let input = bytes::xor_blocks(plain, before);
         let output = des::encrypt_with(sp, ks, input);
-        bytes::store8(data, at, output);
+        bytes::store(data, at, &output);
         before = output;
         at += 8;
     }
@@ -36,9 +36,9 @@ fn decrypt_blocks(data: &mut [u8], sp: &[u32], ks: &[u64])
     let mut before = [0u8; 8];
     let mut at = 0;
     while at < data.len() {
-        let sealed = bytes::load8(data, at);
+        let sealed = bytes::load(data, at);
         let output = des::decrypt_with(sp, ks, sealed);
-        bytes::store8(data, at, bytes::xor_blocks(output, before));
+        bytes::store(data, at, &bytes::xor_blocks(output, before));
         before = sealed;
         at += 8;
     }

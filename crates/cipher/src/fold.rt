@@ -1,6 +1,5 @@
 // A block encrypted under each key of a slice in turn, and the way back.
 ghost use Rattle.std.specs.Prelude.{◌≡◌};
-ghost use Rattle.cipher.specs.inner.AesTables.{TeTable};
 ghost use Rattle.cipher.specs.inner.DesTables.{SpTable, Pc2Table};
 ghost use Rattle.cipher.specs.Fips197.{aes_encrypt};
 ghost use Rattle.cipher.specs.Fips46.{des_encrypt, des_decrypt};
@@ -16,7 +15,7 @@ fn encrypt_des_each(sp: &[u32], pc2: &[u32], block: [u8; 8], keys: &[u8]) -> [u8
     let mut state = block;
     let mut at = 0;
     while 8 <= keys.len() - at {
-        let key = bytes::load8(keys, at);
+        let key = bytes::load(keys, at);
         let next = des::encrypt_once(sp, pc2, state, key);
         state = next;
         at += 8;
@@ -33,24 +32,9 @@ fn decrypt_des_each(sp: &[u32], pc2: &[u32], block: [u8; 8], keys: &[u8]) -> [u8
     let mut at = keys.len() / 8 * 8;
     while 0 < at {
         at -= 8;
-        let key = bytes::load8(keys, at);
+        let key = bytes::load(keys, at);
         let next = des::decrypt_once(sp, pc2, state, key);
         state = next;
-    }
-    state
-}
-
-fn encrypt_aes128_each(te: &[u32], block: [u8; 16], keys: &[u8]) -> [u8; 16]
-    requires { TeTable te.now }
-    ensures { result ≡ under_each aes_encrypt 16 keys.now block }
-{
-    let mut state = block;
-    let mut at = 0;
-    while 16 <= keys.len() - at {
-        let key = bytes::load16(keys, at);
-        let next = aes::encrypt_once(te, state, key);
-        state = next;
-        at += 16;
     }
     state
 }
@@ -77,6 +61,13 @@ pub fn decrypt_des_under_each(block: [u8; 8], keys: &[u8]) -> [u8; 8]
 pub fn encrypt_aes128_under_each(block: [u8; 16], keys: &[u8]) -> [u8; 16]
     ensures { result ≡ under_each aes_encrypt 16 keys.now block }
 {
-    let te = aes::te_table();
-    encrypt_aes128_each(&te, block, keys)
+    let mut state = block;
+    let mut at = 0;
+    while 16 <= keys.len() - at {
+        let key = bytes::load(keys, at);
+        let next = aes::encrypt_aes128_block(state, key);
+        state = next;
+        at += 16;
+    }
+    state
 }

@@ -10,14 +10,14 @@ use Rattle.cipher.proofs.cbc.decrypt_blocks.Goals as goal
 pub loop-at-init : goal.loop-at-init
 loop-at-init c = (refl, c.requires.data_len, run_start _ _ 8 _ _)
 
-pub load8-sealed-requires : goal.load8-sealed-requires
-load8-sealed-requires c = let v = c.loop-at.invariant in let e = v.2.same in omega arith
+pub load-sealed-requires : goal.load-sealed-requires
+load-sealed-requires c = let v = c.loop-at.invariant in let e = v.2.same in omega arith
 
 pub decrypt_with-output-requires : goal.decrypt_with-output-requires
 decrypt_with-output-requires c = record { sp_table = c.requires.sp_table; ks_len = c.requires.ks_len }
 
-pub store8-requires : goal.store8-requires
-store8-requires c = let v = c.loop-at.invariant in let e = v.2.same in omega arith
+pub store-requires : goal.store-requires
+store-requires c = let v = c.loop-at.invariant in let e = v.2.same in omega arith
 
 pub overflow_add-at : goal.overflow_add-at
 overflow_add-at c = let v = c.loop-at.invariant in let e = v.2.same in omega arith
@@ -30,7 +30,7 @@ unfolding des_back_with
 loop-at-preserved c =
     let v = c.loop-at.invariant in
     let e = v.2.same in
-    (omega arith, v.1, back_turn (des_back_with c.args.ks.now) 8 (lit< tt) (omega arith) _ _ _ _ c.load8-sealed.ensures (omega arith) c.store8.ensures c.decrypt_with-output.ensures c.xor_blocks.ensures v.2)
+    (omega arith, v.1, back_turn (des_back_with c.args.ks.now) 8 (lit< tt) (omega arith) _ _ _ _ c.load-sealed.ensures (omega arith) c.store.ensures c.decrypt_with-output.ensures c.xor_blocks.ensures v.2)
 
 pub returns : goal.returns
 unfolding cbc_decrypt

@@ -10,14 +10,14 @@ use Rattle.cipher.proofs.cbc.encrypt_blocks.Goals as goal
 pub loop-at-init : goal.loop-at-init
 loop-at-init c = (refl, c.requires.data_len, run_start _ _ 8 _ _)
 
-pub load8-plain-requires : goal.load8-plain-requires
-load8-plain-requires c = let v = c.loop-at.invariant in let e = v.2.same in omega arith
+pub load-plain-requires : goal.load-plain-requires
+load-plain-requires c = let v = c.loop-at.invariant in let e = v.2.same in omega arith
 
 pub encrypt_with-output-requires : goal.encrypt_with-output-requires
 encrypt_with-output-requires c = record { sp_table = c.requires.sp_table; ks_len = c.requires.ks_len }
 
-pub store8-requires : goal.store8-requires
-store8-requires c = let v = c.loop-at.invariant in let e = v.2.same in omega arith
+pub store-requires : goal.store-requires
+store-requires c = let v = c.loop-at.invariant in let e = v.2.same in omega arith
 
 pub overflow_add-at : goal.overflow_add-at
 overflow_add-at c = let v = c.loop-at.invariant in let e = v.2.same in omega arith
@@ -30,7 +30,7 @@ unfolding des_with
 loop-at-preserved c =
     let v = c.loop-at.invariant in
     let e = v.2.same in
-    (omega arith, v.1, cbc_turn (des_with c.args.ks.now) 8 (lit< tt) (omega arith) _ _ _ _ c.load8-plain.ensures (omega arith) c.store8.ensures c.xor_blocks-input.ensures c.encrypt_with-output.ensures v.2)
+    (omega arith, v.1, cbc_turn (des_with c.args.ks.now) 8 (lit< tt) (omega arith) _ _ _ _ c.load-plain.ensures (omega arith) c.store.ensures c.xor_blocks-input.ensures c.encrypt_with-output.ensures v.2)
 
 pub returns : goal.returns
 unfolding cbc_encrypt

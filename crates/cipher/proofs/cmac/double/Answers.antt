@@ -8,4 +8,4 @@ use Rattle.cipher.proofs.cmac.double.Goals as goal
 
 pub returns : goal.returns
 unfolding double
-returns c = c.xor_blocks16.ensures ∙ ap₂ ◌⊕◌ c.shift_left.ensures (c.last_byte.ensures ∙ ap (λ (b : ℕ). replicate 15 0 ++ (b ∷ [])) c.carry-low.ensures)
+returns c = c.xor_blocks.ensures ∙ ap₂ ◌⊕◌ c.shift_left.ensures (c.last_byte.ensures ∙ ap (λ (b : ℕ). replicate 15 0 ++ (b ∷ [])) c.carry-low.ensures)

@@ -13,7 +13,7 @@ pub loop-at-preserved : goal.loop-at-preserved
 loop-at-preserved c =
     let v = c.loop-at.invariant in
     let e : c.loop-at.at ≡ c.loop-at.at - 8 + 8 = omega arith in
-    (omega arith, omega arith, back_step des_decrypt 8 (lit< tt) (rw e at v.2) (omega arith) _ _ c.load8-key.ensures c.decrypt_once-next.ensures)
+    (omega arith, omega arith, back_step des_decrypt 8 (lit< tt) (rw e at v.2) (omega arith) _ _ c.load-key.ensures c.decrypt_once-next.ensures)
 
 pub returns : goal.returns
 returns c =
