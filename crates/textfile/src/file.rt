@@ -23,10 +23,14 @@ pub fn run_file<R: Files + Print + AllocGlobal, F: FnMut(&str) -> Result<Verdict
 
 // The text of a file. What cannot be read is reported, and is empty.
 fn load<R: Files + Print + AllocGlobal>(rt: &R, file: &str) -> io::Result<String> {
-    match fs::read_to_string(rt, file) {
+    let Ok(opened) = fs::open(rt, file) else {
+        println!(rt; "{file}: cannot be opened")?;
+        return Ok(String::new(rt.alloc()));
+    };
+    match io::read_to_string(rt.alloc(), opened) {
         Ok(text) if text.len() < TOO_LONG => return Ok(text),
         Ok(_) => println!(rt; "{file}: is too long")?,
-        Err(_) => println!(rt; "{file}: cannot be opened")?,
+        Err(_) => println!(rt; "{file}: cannot be read")?,
     }
     Ok(String::new(rt.alloc()))
 }

@@ -1,6 +1,9 @@
 // The table that a program prints: a row for each file, with how many cases ran, how many agreed, the first bytes of the file's CMAC under the
 // zero key, so that no byte of a file changes unseen, and what the file's first line says. What is wrong has a line of its own.
-ghost use Rattle.std.specs.Prelude.{◌≡◌, ◌+◌, ◌%◌, ◌^◌};
+ghost use Rattle.std.specs.Prelude.{◌≡◌, if◌then◌else◌, IfOk, MatchResult};
+ghost use Rattle.textfile.specs.Table.{counts_of, no_cases, sum_of};
+ghost use Rattle.textfile.specs.declared.field.FieldError.TheVariants.{Malformed};
+ghost use Rattle.textfile.specs.declared.table.Verdict.TheVariants.{Agrees, Differs};
 
 use crate::field::FieldError;
 use std::alloc::AllocError;
@@ -18,6 +21,8 @@ pub struct Tally {
 impl Add for Tally {
     type Output = Tally;
 
+    ghost add_gives = { λ a b c. c ≡ sum_of a b };
+
     fn add(self, other: Tally) -> Tally {
         Tally {
             ran: self.ran.wrapping_add(other.ran),
@@ -28,6 +33,8 @@ impl Add for Tally {
 }
 
 impl AddAssign for Tally {
+    ghost add_assign_gives = { λ a b c. c ≡ sum_of a b };
+
     fn add_assign(&mut self, other: Tally) {
         *self = *self + other;
     }
@@ -42,6 +49,8 @@ pub enum Verdict {
 }
 
 impl From<bool> for Verdict {
+    ghost from_gives = { λ agrees v. v ≡ (if agrees then Agrees else Differs) };
+
     fn from(agrees: bool) -> Verdict {
         if agrees {
             Verdict::Agrees
@@ -52,6 +61,8 @@ impl From<bool> for Verdict {
 }
 
 impl From<Verdict> for Tally {
+    ghost from_gives = { λ v counts. counts ≡ counts_of v };
+
     fn from(verdict: Verdict) -> Tally {
         Tally {
             ran: 1,
@@ -67,7 +78,9 @@ pub fn counted(
     verdict: Result<Verdict, FieldError>,
     file: &str,
     line: u64,
-) -> io::Result<Tally> {
+) -> io::Result<Tally>
+    ensures { IfOk result (λ counts. MatchResult verdict (λ v. counts ≡ counts_of v) (λ e. (e ≡ Malformed) × (counts ≡ no_cases))) }
+{
     match verdict {
         Ok(verdict) => {
             if verdict == Verdict::Differs {
@@ -79,7 +92,7 @@ pub fn counted(
             println!(rt; "{file}, line {line}: is malformed")?;
             Ok(Tally::default())
         }
-        Err(FieldError::OutOfMemory) => Err(io::Error::from(AllocError)),
+        Err(FieldError::NoMemory) => Err(io::Error::from(AllocError)),
     }
 }
 
@@ -99,7 +112,7 @@ pub fn print_row(rt: &impl Print, own: Tally, text: &str) -> io::Result<()> {
 
 fn title(text: &str) -> &str {
     match text.split_once('\n') {
-        Some((first, _)) => first.strip_prefix("# ").unwrap_or(""),
+        Some((first, _)) => first.get(2..).unwrap_or(""),
         None => "",
     }
 }
