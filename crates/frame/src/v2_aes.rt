@@ -13,6 +13,7 @@ use answer::{Answer, Refusal};
 
 const AUTHENTICATION2_CODE: u8 = 0x43;
 
+// The longest payload.
 const PAYLOAD_MAX: usize = 243;
 
 // What a session with AES seals and opens under: 36 bytes.
@@ -182,12 +183,12 @@ fn decrypt_in_work_block(
     requires { length sealed.now ≤ 243 }
     ensures { Meets (aes_trying (bytes_of credentials) code id (number_bytes number ++ (sealed.now ++ mac)) (length out.old)) result out.old out.new }
 {
-    let n = sealed.len();
-    let iv = build_initial_vector_v2_aes128(n, code, number, id, credentials.challenge_3c);
+    let len = sealed.len();
+    let iv = build_initial_vector_v2_aes128(len, code, number, id, credentials.challenge_3c);
     let mut work = [0u8; 256];
-    work[..n].copy_from_slice(sealed);
-    cipher::apply_aes128_ofb_parts(&mut work[..n], &mut mac, credentials.cipher_key, iv);
-    let payload = &work[..n];
+    work[..len].copy_from_slice(sealed);
+    cipher::apply_aes128_ofb_parts(&mut work[..len], &mut mac, credentials.cipher_key, iv);
+    let payload = &work[..len];
     let wanted = calculate_mac_v2_aes128(iv, payload, credentials.mac_key);
     accept_aes(number, mac, wanted, payload, out)
 }
