@@ -1,12 +1,11 @@
 // CMAC (SP 800-38B) over AES-128.
 ghost use Rattle.std.specs.Prelude.{◌≡◌, [], ◌∷◌, ◌++◌, ◌+◌, ◌-◌, ◌*◌, ◌/◌, ◌%◌, ◌≤◌, ◌<◌, length, drop, get_or, replicate};
-ghost use Rattle.cipher.specs.Bytes.{words_bytes};
-ghost use Rattle.cipher.specs.inner.AesTables.{TeTable};
 ghost use Rattle.cipher.specs.Fips197.{aes_encrypt, cipher};
 ghost use Rattle.cipher.specs.Sp80038a.{blocks};
 ghost use Rattle.cipher.specs.Sp80038b.{shift_left, double, last_block, mac_from, cmac, R128};
 
-use crate::{aes, bytes};
+use crate::aes::KeySchedule;
+use crate::bytes;
 
 // The byte whose bits are the low seven of a and the highest of b.
 fn shifted(a: u8, b: u8) -> u8
@@ -76,14 +75,12 @@ fn padded(s: &[u8], at: usize) -> [u8; 16]
 }
 
 // The last block as it goes into the cipher (6.2, step 4): the bytes of s from index at on, at most 16.
-fn last_block(te: &[u32], w: &[u32], s: &[u8], at: usize) -> [u8; 16]
-    requires te_table { TeTable te.now }
-    requires w_len { length w.now ≡ 44 }
+fn last_block(keys: &KeySchedule, s: &[u8], at: usize) -> [u8; 16]
     requires at_in_bounds { at ≤ length s.now }
     requires s_len_bound { length s.now ≤ at + 16 }
-    ensures { result ≡ last_block (cipher (words_bytes w.now)) 16 R128 (16 - (length s.now - at)) (drop at s.now) }
+    ensures { result ≡ last_block (cipher keys.now) 16 R128 (16 - (length s.now - at)) (drop at s.now) }
 {
-    let l = aes::encrypt_with(te, w, [0u8; 16]);
+    let l = keys.encrypt_block([0u8; 16]);
     let k1 = double(l);
     if s.len() - at == 16 {
         let whole = bytes::load(s, at);
@@ -95,51 +92,45 @@ fn last_block(te: &[u32], w: &[u32], s: &[u8], at: usize) -> [u8; 16]
 }
 
 // The MAC from the state start on (6.2, steps 5 and 6).
-fn mac_from(te: &[u32], w: &[u32], start: [u8; 16], s: &[u8]) -> [u8; 16]
-    requires te_table { TeTable te.now }
-    requires w_len { length w.now ≡ 44 }
-    ensures { result ≡ mac_from (cipher (words_bytes w.now)) 16 R128 start (blocks 16 (length s.now) - 1) s.now }
+fn mac_from(keys: &KeySchedule, start: [u8; 16], s: &[u8]) -> [u8; 16]
+    ensures { result ≡ mac_from (cipher keys.now) 16 R128 start (blocks 16 (length s.now) - 1) s.now }
 {
     let mut state = start;
     let mut at = 0;
     while 16 < s.len() - at {
         let block = bytes::load(s, at);
         let input = bytes::xor_blocks(state, block);
-        let next = aes::encrypt_with(te, w, input);
+        let next = keys.encrypt_block(input);
         state = next;
         at += 16;
     }
-    let last = last_block(te, w, s, at);
+    let last = last_block(keys, s, at);
     let input = bytes::xor_blocks(state, last);
-    aes::encrypt_with(te, w, input)
+    keys.encrypt_block(input)
 }
 
 // The MAC of data.
 pub fn aes128_cmac(data: &[u8], key: [u8; 16]) -> [u8; 16]
     ensures { result ≡ cmac (aes_encrypt key) 16 R128 «data».now }
 {
-    let te = aes::te_table();
-    let w = aes::expand(&te, key);
-    mac_from(&te, &w, [0u8; 16], data)
+    let keys = KeySchedule::new(key);
+    mac_from(&keys, [0u8; 16], data)
 }
 
-fn mac_after_block(te: &[u32], w: &[u32], first: [u8; 16], data: &[u8]) -> [u8; 16]
-    requires te_table { TeTable te.now }
-    requires w_len { length w.now ≡ 44 }
-    ensures { result ≡ cmac (cipher (words_bytes w.now)) 16 R128 (first ++ «data».now) }
+fn mac_after_block(keys: &KeySchedule, first: [u8; 16], data: &[u8]) -> [u8; 16]
+    ensures { result ≡ cmac (cipher keys.now) 16 R128 (first ++ «data».now) }
 {
     if data.len() == 0 {
-        return mac_from(te, w, [0u8; 16], &first);
+        return mac_from(keys, [0u8; 16], &first);
     }
-    let state = aes::encrypt_with(te, w, first);
-    mac_from(te, w, state, data)
+    let state = keys.encrypt_block(first);
+    mac_from(keys, state, data)
 }
 
 // The MAC of a block followed by data.
 pub fn aes128_cmac_after_block(first: [u8; 16], data: &[u8], key: [u8; 16]) -> [u8; 16]
     ensures { result ≡ cmac (aes_encrypt key) 16 R128 (first ++ «data».now) }
 {
-    let te = aes::te_table();
-    let w = aes::expand(&te, key);
-    mac_after_block(&te, &w, first, data)
+    let keys = KeySchedule::new(key);
+    mac_after_block(&keys, first, data)
 }

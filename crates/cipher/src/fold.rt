@@ -46,8 +46,7 @@ impl BlockCipher<16> for Aes128Encrypt {
     fn apply(block: [u8; 16], key: [u8; 16]) -> [u8; 16]
         ensures { result ≡ aes_encrypt key block }
     {
-        let te = aes::te_table();
-        aes::encrypt_once(&te, block, key)
+        aes::encrypt_aes128_block(block, key)
     }
 }
 

@@ -1,6 +1,5 @@
 use native.Mathlib.Omega.{arith}
 use lib.Dec.{lit<}
-use Rattle.cipher.specs.Bytes.{words_bytes}
 use Rattle.cipher.specs.Fips197.{cipher}
 use Rattle.cipher.specs.Sp80038b.{R128}
 use Rattle.cipher.proofs.Macs.{mac_start_lem, mac_step, mac_done}
@@ -11,11 +10,11 @@ loop-at-init c = mac_start_lem _ 16 R128 (lit< tt) _ _
 
 pub loop-at-preserved : goal.loop-at-preserved
 loop-at-preserved c =
-    mac_step (cipher (words_bytes c.args.w.now)) 16 R128 (lit< tt) c.loop-at.invariant (omega arith) _ _ _ c.load-block.ensures c.xor_blocks-input.ensures c.encrypt_with-next.ensures
+    mac_step (cipher c.args.keys.now) 16 R128 (lit< tt) c.loop-at.invariant (omega arith) _ _ _ c.load-block.ensures c.xor_blocks-input.ensures c.encrypt_block-next.ensures
 
 pub last_block-last-requires : goal.last_block-last-requires
-last_block-last-requires c = record { te_table = c.requires.te_table; w_len = c.requires.w_len; at_in_bounds = omega arith; s_len_bound = omega arith }
+last_block-last-requires c = record { at_in_bounds = omega arith; s_len_bound = omega arith }
 
 pub returns : goal.returns
 returns c =
-    mac_done (cipher (words_bytes c.args.w.now)) 16 R128 (lit< tt) c.loop-at.invariant (omega arith) _ _ _ c.last_block-last.ensures c.xor_blocks-input-2.ensures c.encrypt_with.ensures
+    mac_done (cipher c.args.keys.now) 16 R128 (lit< tt) c.loop-at.invariant (omega arith) _ _ _ c.last_block-last.ensures c.xor_blocks-input-2.ensures c.encrypt_block.ensures

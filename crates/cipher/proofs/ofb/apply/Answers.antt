@@ -3,7 +3,6 @@ use Prim.Native.Nat.{ℕ, ◌+◌, ◌/◌}
 use native.Mathlib.Omega.{arith}
 use lib.Dec.{lit<}
 use lib.ListN.{length}
-use Rattle.cipher.specs.Bytes.{words_bytes}
 use Rattle.cipher.specs.Fips197.{cipher}
 use Rattle.cipher.specs.Sp80038a.{blocks, ofb, ofb_input}
 use Rattle.cipher.proofs.Chains.{run_start, run_done}
@@ -24,11 +23,11 @@ pub loop-at-preserved : goal.loop-at-preserved
 loop-at-preserved c =
     let v = c.loop-at.invariant in
     let e = v.0.same in
-    let CIPH = cipher (words_bytes c.args.w.now) in (
-      ofb_turn CIPH 16 (lit< tt) _ _ (omega arith) c.encrypt_with-output.ensures (omega arith) c.add_at.ensures v.0,
+    let CIPH = cipher c.args.keys.now in (
+      ofb_turn CIPH 16 (lit< tt) _ _ (omega arith) c.encrypt_block-output.ensures (omega arith) c.add_at.ensures v.0,
       omega arith,
       omega arith,
-      input_turn CIPH 16 (lit< tt) _ _ _ c.loop-at.at v.3 c.encrypt_with-output.ensures,
+      input_turn CIPH 16 (lit< tt) _ _ _ c.loop-at.at v.3 c.encrypt_block-output.ensures,
     )
 
 pub returns : goal.returns
@@ -38,4 +37,4 @@ returns c =
     let e = v.0.same in
     let a = c.args in
     let n : c.loop-at.at / 16 ≡ (length a.«data».now + 15) / 16 = omega arith in
-    record { data_after = run_done _ _ 16 (lit< tt) v.0 (omega arith); next_input = v.3 ∙ ap (λ (k : ℕ). ofb_input (cipher (words_bytes a.w.now)) 16 k a.iv) n }
+    record { data_after = run_done _ _ 16 (lit< tt) v.0 (omega arith); next_input = v.3 ∙ ap (λ (k : ℕ). ofb_input (cipher a.keys.now) 16 k a.iv) n }
