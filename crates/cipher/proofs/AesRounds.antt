@@ -53,14 +53,14 @@ module _ (w k r : List ℕ) where
   unfolding rounds
   rounds_none s block q p e = e ∙ ap₂ add_round_key q p
 
-  pub rounds_more : (s block : List ℕ) (n : ℕ) → s ≡ rounds w block n → k ≡ round_key w (n + 1) → r ≡ add_round_key (mix_columns (shift_rows (sub_bytes s))) k
+  pub rounds_more : (s t block : List ℕ) (n : ℕ) → s ≡ rounds w block n → k ≡ round_key w (n + 1) → t ≡ mix_columns (shift_rows (sub_bytes s)) → r ≡ add_round_key t k
       → r ≡ rounds w block (n + 1)
   unfolding rounds
-  rounds_more s block n q p e = e ∙ rw (add-one n) (ap₂ (λ (t j : List ℕ). add_round_key (mix_columns (shift_rows (sub_bytes t))) j) q (rw (add-one n) at p))
+  rounds_more s t block n q p f e = e ∙ rw (add-one n) (ap₂ add_round_key (f ∙ ap (λ (l : List ℕ). mix_columns (shift_rows (sub_bytes l))) q) (rw (add-one n) at p))
 
-  pub rounds_done : (s block : List ℕ) → s ≡ rounds w block 9 → k ≡ round_key w 10 → r ≡ add_round_key (shift_rows (sub_bytes s)) k → r ≡ cipher w block
+  pub rounds_done : (s t block : List ℕ) → s ≡ rounds w block 9 → t ≡ shift_rows (sub_bytes s) → k ≡ round_key w 10 → r ≡ add_round_key t k → r ≡ cipher w block
   unfolding cipher
-  rounds_done s block q p e = e ∙ ap₂ (λ (t j : List ℕ). add_round_key (shift_rows (sub_bytes t)) j) q p
+  rounds_done s t block q h p e = e ∙ ap₂ add_round_key (h ∙ ap (λ (l : List ℕ). shift_rows (sub_bytes l)) q) p
 
   -- ---- the inverse cipher
 
@@ -68,11 +68,12 @@ module _ (w k r : List ℕ) where
   unfolding inv_rounds
   inv_none s block q p e = e ∙ ap₂ add_round_key q p
 
-  pub inv_more : (s block : List ℕ) (n : ℕ) → s ≡ inv_rounds w block n → k ≡ round_key w (9 - n) → r ≡ inv_mix_columns (add_round_key (inv_sub_bytes (inv_shift_rows s)) k)
-      → r ≡ inv_rounds w block (n + 1)
+  pub inv_more : (s t u block : List ℕ) (n : ℕ) → s ≡ inv_rounds w block n → k ≡ round_key w (9 - n) → t ≡ inv_sub_bytes (inv_shift_rows s) → u ≡ add_round_key t k
+      → r ≡ inv_mix_columns u → r ≡ inv_rounds w block (n + 1)
   unfolding inv_rounds
-  inv_more s block n q p e = e ∙ rw (add-one n) (ap₂ (λ (t j : List ℕ). inv_mix_columns (add_round_key (inv_sub_bytes (inv_shift_rows t)) j)) q p)
+  inv_more s t u block n q p f e g =
+      g ∙ rw (add-one n) (ap inv_mix_columns (e ∙ ap₂ add_round_key (f ∙ ap (λ (l : List ℕ). inv_sub_bytes (inv_shift_rows l)) q) p))
 
-  pub inv_done : (s block : List ℕ) → s ≡ inv_rounds w block 9 → k ≡ round_key w 0 → r ≡ add_round_key (inv_sub_bytes (inv_shift_rows s)) k → r ≡ inv_cipher w block
+  pub inv_done : (s t block : List ℕ) → s ≡ inv_rounds w block 9 → t ≡ inv_sub_bytes (inv_shift_rows s) → k ≡ round_key w 0 → r ≡ add_round_key t k → r ≡ inv_cipher w block
   unfolding inv_cipher
-  inv_done s block q p e = e ∙ ap₂ (λ (t j : List ℕ). add_round_key (inv_sub_bytes (inv_shift_rows t)) j) q p
+  inv_done s t block q h p e = e ∙ ap₂ add_round_key (h ∙ ap (λ (l : List ℕ). inv_sub_bytes (inv_shift_rows l)) q) p

@@ -14,7 +14,6 @@
 -- Copies: copies into and out of a part of a list
 -- DesInverse: DES deciphers what it enciphers, and the other way round; triple DES too
 -- DesKeys: the DES key schedule on words
--- DesOnce: the DES rounds with each round key made in its round
 -- DesPc2: the numbers of the table PC2 follow their rule
 -- DesRounds: the function f on words, and the loops over the sixteen rounds
 -- DesSp: the numbers of the table SP follow their rule
@@ -48,7 +47,6 @@ pub mod Compare
 pub mod Copies
 pub mod DesInverse
 pub mod DesKeys
-pub mod DesOnce
 pub mod DesPc2
 pub mod DesRounds
 pub mod DesSp

@@ -87,57 +87,54 @@ impl Columns {
         ]
     }
 
-    fn round(self, key: Columns) -> Columns
-        ensures { bytes_of result ≡ add_round_key (mix_columns (shift_rows (sub_bytes (bytes_of self)))) (bytes_of key) }
+    // SubBytes and ShiftRows.
+    fn sub_shift(self) -> Columns
+        ensures { bytes_of result ≡ shift_rows (sub_bytes (bytes_of self)) }
     {
         let [a, b, c, d] = self.shift_rows();
-        let mixed = Columns {
-            a: sub_mix_column(a),
-            b: sub_mix_column(b),
-            c: sub_mix_column(c),
-            d: sub_mix_column(d),
-        };
-        mixed.add_round_key(key)
-    }
-
-    // A round with no MixColumns.
-    fn last_round(self, key: Columns) -> Columns
-        ensures { bytes_of result ≡ add_round_key (shift_rows (sub_bytes (bytes_of self))) (bytes_of key) }
-    {
-        let [a, b, c, d] = self.shift_rows();
-        let shifted = Columns {
+        Columns {
             a: sub_column(a),
             b: sub_column(b),
             c: sub_column(c),
             d: sub_column(d),
-        };
-        shifted.add_round_key(key)
-    }
-
-    fn inv_round(self, key: Columns) -> Columns
-        ensures { bytes_of result ≡ inv_mix_columns (add_round_key (inv_sub_bytes (inv_shift_rows (bytes_of self))) (bytes_of key)) }
-    {
-        let mixed = self.last_inv_round(key);
-        Columns {
-            a: inv_mix_column(mixed.a),
-            b: inv_mix_column(mixed.b),
-            c: inv_mix_column(mixed.c),
-            d: inv_mix_column(mixed.d),
         }
     }
 
-    // A round of the inverse cipher with no InvMixColumns.
-    fn last_inv_round(self, key: Columns) -> Columns
-        ensures { bytes_of result ≡ add_round_key (inv_sub_bytes (inv_shift_rows (bytes_of self))) (bytes_of key) }
+    // SubBytes, ShiftRows and MixColumns.
+    fn sub_shift_mix(self) -> Columns
+        ensures { bytes_of result ≡ mix_columns (shift_rows (sub_bytes (bytes_of self))) }
+    {
+        let [a, b, c, d] = self.shift_rows();
+        Columns {
+            a: sub_mix_column(a),
+            b: sub_mix_column(b),
+            c: sub_mix_column(c),
+            d: sub_mix_column(d),
+        }
+    }
+
+    // InvShiftRows and InvSubBytes.
+    fn inv_shift_sub(self) -> Columns
+        ensures { bytes_of result ≡ inv_sub_bytes (inv_shift_rows (bytes_of self)) }
     {
         let [a, b, c, d] = self.inv_shift_rows();
-        let shifted = Columns {
+        Columns {
             a: inv_sub_column(a),
             b: inv_sub_column(b),
             c: inv_sub_column(c),
             d: inv_sub_column(d),
-        };
-        shifted.add_round_key(key)
+        }
+    }
+
+    fn inv_mix_columns(self) -> Columns
+        ensures { bytes_of result ≡ inv_mix_columns (bytes_of self) }
+    {
+        Columns {
+            a: inv_mix_column(self.a),
+            b: inv_mix_column(self.b),
+            c: inv_mix_column(self.c),
+            d: inv_mix_column(self.d),
+        }
     }
 }
 
@@ -260,9 +257,9 @@ impl KeySchedule {
     {
         let mut state = Columns::load(block).add_round_key(self.round_keys[0]);
         for key in &self.round_keys[1..10] {
-            state = state.round(*key);
+            state = state.sub_shift_mix().add_round_key(*key);
         }
-        state.last_round(self.round_keys[10]).store()
+        state.sub_shift().add_round_key(self.round_keys[10]).store()
     }
 
     pub(crate) fn decrypt_block(&self, block: [u8; 16]) -> [u8; 16]
@@ -270,9 +267,12 @@ impl KeySchedule {
     {
         let mut state = Columns::load(block).add_round_key(self.round_keys[10]);
         for key in self.round_keys[1..10].iter().rev() {
-            state = state.inv_round(*key);
+            state = state.inv_shift_sub().add_round_key(*key).inv_mix_columns();
         }
-        state.last_inv_round(self.round_keys[0]).store()
+        state
+            .inv_shift_sub()
+            .add_round_key(self.round_keys[0])
+            .store()
     }
 }
 
@@ -284,11 +284,11 @@ pub fn encrypt_aes128_block(data: [u8; 16], key: [u8; 16]) -> [u8; 16]
     let mut state = Columns::load(data).add_round_key(key.words);
     for _ in 0..9usize {
         key = key.next();
-        state = state.round(key.words);
+        state = state.sub_shift_mix().add_round_key(key.words);
     }
     // made before the look-ups of the last round, which is faster
     let last = key.next();
-    state.last_round(last.words).store()
+    state.sub_shift().add_round_key(last.words).store()
 }
 
 pub fn decrypt_aes128_block(data: [u8; 16], key: [u8; 16]) -> [u8; 16]

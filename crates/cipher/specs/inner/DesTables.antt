@@ -3,7 +3,7 @@ use Rattle.std.specs.Prelude.{ℕ, ◌+◌, ◌-◌, ◌*◌, ◌/◌, ◌%◌, 
 use Rattle.std.specs.Int.Bits.{bit_and, bit_xor}
 use Rattle.cipher.specs.Bits.{bits, num}
 use Rattle.cipher.specs.Bytes.{tab}
-use Rattle.cipher.specs.Fips46.{select, left_shift, substitute, P, PC2, S1, S2, S3, S4, S5, S6, S7, S8}
+use Rattle.cipher.specs.Fips46.{Halves, select, left_shift, substitute, P, PC2, S1, S2, S3, S4, S5, S6, S7, S8}
 
 -- b after `before` clear bits and before `behind` more
 unfoldable pub among : ℕ → ℕ → List Bool → List Bool
@@ -26,6 +26,10 @@ transposed = tab 64 (λ i. i % 8 * 8 + i / 8 + 1)
 -- the 32 bits of a half that a word holds turned left by one place
 unfoldable pub held : ℕ → List Bool
 held x = left_shift 31 (bits 32 x)
+
+-- the halves that two words hold
+abbrev pub holds : ℕ → ℕ → Halves
+holds l r = record { L = held l; R = held r }
 
 -- the 48 bits of a packed round key: the six low bits of each byte, where the bytes are the groups 1, 3, 5, 7, 2, 4, 6, 8, highest first
 unfoldable pub key_bits : ℕ → List Bool

@@ -24,7 +24,8 @@ loop-key-preserved c =
     let t = YieldsList-turn (YieldsList-from_rev_slice (take 9 (drop 1 ks)) cc) y _ c.loop-key.yielded_by _ _ k c.in-Some.is c.next.ensures.steps in
     let n : length y < 9 = omega (arith, t.0, length-reverse (take 9 (drop 1 ks)), length_between ks c.self.view_is l) in
     rw (length_push y k)
-    (inv_more _ _ _ _ _ (length y) c.loop-key.invariant (ap bytes_of t.1 ∙ key_back ks c.self.view_is l (length y) k.now n) c.inv_round-state.ensures)
+    (inv_more _ _ _ _ _ _ _ (length y) c.loop-key.invariant (ap bytes_of t.1 ∙ key_back ks c.self.view_is l (length y) k.now n) c.inv_shift_sub.ensures c.add_round_key.ensures
+    c.inv_mix_columns-state.ensures)
 
 pub returns : goal.returns
 returns c =
@@ -32,4 +33,4 @@ returns c =
     let l : length ks ≡ 11 = omega arith in
     let t = YieldsList-end (YieldsList-from_rev_slice (take 9 (drop 1 ks)) cc) c.loop-key.yielded _ c.loop-key.yielded_by _ _ c.in-None.is c.next.ensures.steps in
     let n : length c.loop-key.yielded ≡ 9 = omega (arith, t.1, length-reverse (take 9 (drop 1 ks)), length_between ks c.self.view_is l) in
-    c.store.ensures ∙ inv_done _ _ _ _ _ (c.loop-key.invariant ∙ ap (inv_rounds _ _) n) (key_at _ c.self.view_is l 0 _ (omega arith)) c.last_inv_round.ensures
+    c.store.ensures ∙ inv_done _ _ _ _ _ _ (c.loop-key.invariant ∙ ap (inv_rounds _ _) n) c.inv_shift_sub-2.ensures (key_at _ c.self.view_is l 0 _ (omega arith)) c.add_round_key-2.ensures
