@@ -5,7 +5,7 @@ ghost use Rattle.answer.specs.Outcome.{Meets, over};
 ghost use Rattle.frame.specs.Padding.{pad_count, pad};
 ghost use Rattle.frame.specs.DesFrame.{mac_start, des_mac, mac_holds, des_seal, header, des_sealed, des_size, seal_rows, des_sealing, des_plain, des_opening};
 ghost use Rattle.frame.specs.inner.DesSteps.{des_accepting};
-ghost use Rattle.frame.specs.inner.Response.{header_of, PayloadIn, Parses, checked_delivering, parsed_delivering};
+ghost use Rattle.frame.specs.inner.Response.{header_of, PayloadIn, ParsesOr13, checked_delivering};
 ghost use Rattle.frame.specs.inner.WorkBlock.{HasSize, SealsInto};
 ghost use Rattle.frame.specs.Authentication2.{auth2_sealing, auth2_accepting, auth2_opening};
 ghost use Rattle.frame.specs.Scheme.{responding};
@@ -84,8 +84,7 @@ pub(crate) struct SecureResponseHeader {
     pub(crate) transaction_id: [u8; 6],
 }
 
-// A parsed response: its header, and the payload inside the plain text, without the MAC. All that decides something stands in functions
-// without it (docs/DECISIONS.md).
+// A parsed response: its header, and the payload inside the plain text, without the MAC.
 #[derive(Clone, Copy)]
 pub(crate) struct SecureResponse<'a> {
     pub(crate) header: SecureResponseHeader,
@@ -147,15 +146,18 @@ fn deliver_checked(
 }
 
 impl<'a> SecureResponse<'a> {
-    // The response in a plain text that ends with its MAC.
-    pub(crate) fn parse(plain: &'a [u8]) -> Self
+    // The response in a plain text that ends with its MAC; 13 where that differs.
+    pub(crate) fn parse(code: u8, plain: &'a [u8]) -> Result<Self, Refusal>
         requires { 16 ≤ length plain.now }
-        ensures { Parses plain.entry result }
+        ensures { ParsesOr13 code plain.entry result }
     {
-        SecureResponse {
+        if !check_packet_mac_des(plain, code) {
+            return Err(Refusal::MacDiffers);
+        }
+        Ok(SecureResponse {
             header: SecureResponseHeader::parse(plain),
             payload: parse_payload(plain),
-        }
+        })
     }
 
     // Takes the response apart, and delivers it.
@@ -167,24 +169,13 @@ impl<'a> SecureResponse<'a> {
     }
 }
 
-// The same by plain parameters, so that its callers need nothing of the response's type.
-fn parse_and_deliver<'a, 'b>(id: [u8; 6], plain: &'a [u8], out: &'b mut [u8]) -> Answer
-    requires { (16 ≤ length plain.now) × (length plain.now ≤ 256) }
-    ensures { Meets (parsed_delivering id plain.now (length out.old)) result out.old out.new }
-{
-    SecureResponse::parse(plain).deliver(id, out)
-}
-
 // Opens a plain text that ends with its MAC.
 fn accept_des(code: u8, id: [u8; 6], plain: &[u8], out: &mut [u8]) -> Answer
     requires in_bounds { 16 ≤ length plain.now }
     requires plain_len_bound { length plain.now ≤ 256 }
     ensures { Meets (des_accepting code id plain.now (length out.old)) result out.old out.new }
 {
-    if !check_packet_mac_des(plain, code) {
-        return Err(Refusal::MacDiffers);
-    }
-    parse_and_deliver(id, plain, out)
+    SecureResponse::parse(code, plain)?.deliver(id, out)
 }
 
 // Opens a sealed command or response. The trial plain text stands in a work block, so that a refusal shows none of it.

@@ -1,10 +1,12 @@
 -- Document 01, Rust forms recast: a parsed DES response, which names the payload inside the decrypted bytes, and its delivery. Assumes nothing.
-use Rattle.std.specs.Prelude.{ℕ, ◌+◌, ◌≡◌, List, [], ◌∷◌}
+use Rattle.std.specs.Prelude.{ℕ, ◌+◌, ◌≡◌, true, false, List, [], ◌∷◌, Result, MatchResult}
+use Rattle.answer.specs.declared.refusal.Refusal.{Refusal}
+use Rattle.answer.specs.declared.refusal.Refusal.TheVariants.{MacDiffers}
 use Rattle.std.specs.Borrow.{Bor}
 use Rattle.answer.specs.Number.{number_of}
 use Rattle.answer.specs.Outcome.{Outcome, row, decide}
 use Rattle.answer.specs.Delivery.{delivering}
-use Rattle.frame.specs.DesFrame.{id_of, payload_of}
+use Rattle.frame.specs.DesFrame.{mac_holds, id_of, payload_of}
 use Rattle.answer.specs.Tests.{isnt, same}
 use Rattle.frame.specs.declared.des.SecureResponseHeader.{SecureResponseHeader}
 use Rattle.frame.specs.declared.des.SecureResponse.{SecureResponse}
@@ -22,6 +24,10 @@ pub record PayloadIn (plain r : Bor (List ℕ)) : Type 0 where
 pub record Parses (plain : Bor (List ℕ)) (r : SecureResponse) : Type 0 where
   pub header : r.header ≡ header_of plain.now
   pub payload : PayloadIn plain r.payload
+
+-- the same where the MAC holds; else 13
+abbrev pub ParsesOr13 : ℕ → Bor (List ℕ) → Result SecureResponse Refusal → Type 0
+ParsesOr13 code plain r = MatchResult r (λ s. (mac_holds code plain.now ≡ true) × Parses plain s) (λ e. (mac_holds code plain.now ≡ false) × (e ≡ MacDiffers))
 
 -- number, ID and payload of a response, where `id` is the session's
 unfoldable pub checked_delivering : ℕ → List ℕ → List ℕ → List ℕ → ℕ → Outcome

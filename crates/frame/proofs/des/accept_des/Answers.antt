@@ -1,15 +1,24 @@
-use mathlib.Core.Path.{refl, sym, ◌∙◌}
+use mathlib.Core.Path.{◌≡◌, ap, ◌∙◌}
+use borrow.Author.Rules.{rules}
 use lib.ListN.{length}
+use Rattle.std.specs.Prelude.{Err}
 use Rattle.answer.proofs.Rows.{err_meets}
 use Rattle.frame.proofs.DesOpens.{wrong_mac, right_mac}
+use Rattle.frame.proofs.Responses.{parsed_meets, parsed_short}
 use Rattle.frame.proofs.des.accept_des.Goals as goal
 
-pub returns-then-not-check_packet_mac_des : goal.returns-then-not-check_packet_mac_des
-returns-then-not-check_packet_mac_des c =
+pub returns-in_err-parse : goal.returns-in_err-parse
+returns-in_err-parse c =
     let a = c.args in
-    rw (wrong_mac a.code (length a.out.now) a.id a.plain.now (sym c.check_packet_mac_des.ensures ∙ c.if-not-check_packet_mac_des.true)) (err_meets _ a.out.now refl)
+    let h = c.in_err-parse.ensures in
+    let r : c.from_residual.result ≡ Err c.in_err-parse.field-0.0 = search rules in
+    rw (wrong_mac a.code (length a.out.now) a.id a.plain.now h.0) (err_meets _ a.out.now (r ∙ ap Err h.1))
+
+pub deliver-requires : goal.deliver-requires
+deliver-requires c = parsed_short _ _ c.in_ok-parse.ensures.1 c.requires.plain_len_bound
 
 pub returns : goal.returns
 returns c =
     let a = c.args in
-    rw (right_mac a.code (length a.out.now) a.id a.plain.now (sym c.check_packet_mac_des.ensures ∙ c.if-not-check_packet_mac_des.false)) c.parse_and_deliver.ensures
+    let h = c.in_ok-parse.ensures in
+    rw (right_mac a.code (length a.out.now) a.id a.plain.now h.0) (parsed_meets _ _ h.1 a.id a.out.now _ _ c.deliver.ensures)
