@@ -2,7 +2,7 @@
 use mathlib.Core.Path.{◌≡◌, refl, sym, ap, ◌∙◌}
 use mathlib.Core.List.{List, [], ◌∷◌, ◌++◌, map, reverse, reverse-cons}
 use Prim.Native.Nat.{ℕ, zero, suc, ◌+◌, ◌*◌, ◌/◌, ◌≤◌, ◌<◌}
-use native.Mathlib.Nat.{suc-mul, mul-div_cancel}
+use native.Mathlib.Nat.{suc-mul, mul-div_cancel, div-eq_of_lt}
 use native.Mathlib.Numerals.{add-one}
 use native.Mathlib.Omega.{arith}
 use lib.ListN.{length, length-map, length-drop, take, drop, get_or}
@@ -46,6 +46,11 @@ module _ (CIPH : List ℕ → List ℕ → List ℕ) where
     pub under_whole : (s keys : List ℕ) → fold Turn s (first_chunks w (length keys / w) keys) ≡ under_each CIPH w keys s
     unfolding under_each
     under_whole s keys = under_chunks (length keys / w) s keys
+
+    -- under no key
+    pub under_none : (s : List ℕ) → 0 < w → under_each CIPH w [] s ≡ s
+    unfolding under_each under_from
+    under_none s h = rw (div-eq_of_lt h)
 
     back_chunks : (n : ℕ) (s keys : List ℕ) → fold Turn s (reverse (first_chunks w n keys)) ≡ back_from CIPH w s n keys
     unfolding back_from
