@@ -11,5 +11,5 @@ returns c =
     let p = a.plain.now in
     let o = a.out.now in
     let eight : length a.key ≡ 8 = omega arith in
-    let q = cipher_written a.key _ p o _ _ c.requires.plain_len c.copy_from_slice.ensures.after eight c.xor_blocks.ensures c.encrypt_des_cbc_zero_iv.ensures.1 c.encrypt_des_cbc_zero_iv.auto.data in
+    let q = cipher_written a.key _ p o _ _ c.requires.plain_len c.requires.plain_in_bounds c.copy.ensures eight c.xor_blocks.ensures c.encrypt_des_cbc_zero_iv.ensures.1 c.encrypt_des_cbc_zero_iv.auto.data in
     (last_block a.key p o _ _ q.0 c.requires.in_bounds q.1 (c.fit.ensures.1 (search rules)), q.0, q.1)
