@@ -24,6 +24,7 @@ use Rattle.frame.specs.AesFrame.{cipher_key, mac_key, challenge_3c, aes_iv, aes_
 use Rattle.frame.specs.inner.AesSteps.{aes_accepting, aes_trying}
 use Rattle.answer.specs.Tests.{isnt, either, same}
 use Rattle.answer.proofs.Rows.{both_right, decide_false}
+use Rattle.answer.proofs.Outputs.{copied_over, front}
 use Rattle.answer.proofs.Equality.{same_is}
 
 -- ---- the MAC
@@ -66,8 +67,8 @@ parts_joined d first rest sealed mac number b h ef er es em en =
 
 -- ---- the work block
 
--- number, cipher payload and MAC of sealed data, of which the payload was put over the front of z and decrypted there
-module _ (code number : ℕ) (id c sealed mac z : List ℕ) (small : number < 65536) (eight : length mac ≡ 8) where
+-- number, cipher payload and MAC of sealed data, of which the payload was copied over the front of z and decrypted there
+module _ (code number : ℕ) (id c sealed mac z : List ℕ) (small : number < 65536) (eight : length mac ≡ 8) (fits : length sealed ≤ length z) where
   abbrev d : List ℕ
   d = number_bytes number ++ (sealed ++ mac)
 
@@ -77,14 +78,13 @@ module _ (code number : ℕ) (id c sealed mac z : List ℕ) (small : number < 65
   length_parts : length d ≡ n + 10
   length_parts = ap (λ (k : ℕ). suc (suc k)) (length-append sealed mac) ∙ omega arith
 
-  pub aes_opened : (room : ℕ) (c3 iv first key l mac' mk wanted : List ℕ) → c3 ≡ challenge_3c c → iv ≡ aes_iv n code (number_bytes number) id c3 → first ≡ sealed → key ≡ cipher_key c
-      → l ≡ ofb (aes_encrypt key) 16 iv (take n (first ++ drop n z)) → length l ≡ length (take n (first ++ drop n z))
-      → mac' ≡ ofb (aes_encrypt key) 16 (ofb_input (aes_encrypt key) 16 (blocks 16 (length (take n (first ++ drop n z)))) iv) mac → mk ≡ mac_key c
-      → wanted ≡ aes_mac mk iv (take n (l ++ drop n (first ++ drop n z))) → aes_accepting number mac' wanted (take n (l ++ drop n (first ++ drop n z))) room ≡ aes_trying c code id d room
+  pub aes_opened : (room : ℕ) (c3 iv w key l mac' mk wanted : List ℕ) → c3 ≡ challenge_3c c → iv ≡ aes_iv n code (number_bytes number) id c3 → w ≡ take (length z) sealed ++ drop n z → key ≡ cipher_key c
+      → l ≡ ofb (aes_encrypt key) 16 iv (take n w) → length l ≡ length (take n w)
+      → mac' ≡ ofb (aes_encrypt key) 16 (ofb_input (aes_encrypt key) 16 (blocks 16 (length (take n w))) iv) mac → mk ≡ mac_key c
+      → wanted ≡ aes_mac mk iv (take n (l ++ drop n w)) → aes_accepting number mac' wanted (take n (l ++ drop n w)) room ≡ aes_trying c code id d room
   unfolding aes_trying opened_payload opened_mac opened_iv mac_input
-  aes_opened room c3 iv first key l mac' mk wanted e3 eiv ef ek el ll em emk ew =
-      let w : List ℕ = first ++ drop n z in
-      let f : take n w ≡ sealed = take_at first (drop n z) n (ap length ef) ∙ ef in
+  aes_opened room c3 iv w key l mac' mk wanted e3 eiv ef ek el ll em emk ew =
+      let f : take n w ≡ sealed = front sealed z w n refl (copied_over sealed z w fits ef) in
       let lw : length (take n w) ≡ n = ap length f in
       let k : length d - 10 ≡ n = omega (arith, length_parts) in
       let j : length d - 8 ≡ n + 2 = omega (arith, length_parts) in

@@ -15,7 +15,7 @@ use Rattle.frame.specs.inner.AesSteps.{bytes_of}
 use Rattle.answer.specs.Outcome.{over, accepted, row, decide, first_of}
 use Rattle.frame.specs.AesFrame.{cipher_key, mac_key, challenge_3c, aes_iv, aes_mac, mac_input, aes_sealed, aes_size, aes_sealing, aes_seal_rows}
 use Rattle.answer.proofs.Outputs.{placed_over}
-use Rattle.answer.proofs.Pieces.{placed_next, last_piece, put_again}
+use Rattle.answer.proofs.Pieces.{placed_next, copied_next, last_piece, put_again}
 
 -- s, where its k bytes at n came back as b
 abbrev pub with_part : List ℕ → ℕ → ℕ → List ℕ → List ℕ
@@ -95,7 +95,7 @@ module _ (code number : ℕ) (id c payload out : List ℕ) (room : length payloa
   -- what each step of write_aes leaves
   pub sealed_written : (c3 iv mk mac key l₁ l₂ s₂ l₃ s₃ mac' l₄ : List ℕ) → c3 ≡ challenge_3c c → iv ≡ aes_iv n code (number_bytes number) id c3
       → mk ≡ mac_key c → mac ≡ aes_mac mk iv payload → length mac ≡ 8 → l₁ ≡ number_bytes number
-      → l₂ ≡ payload → s₂ ≡ with_part (l₁ ++ drop 2 out) 2 (n + 2 - 2) l₂ → key ≡ cipher_key c
+      → l₂ ≡ take (length (take (n + 2 - 2) (drop 2 (l₁ ++ drop 2 out)))) payload ++ drop n (take (n + 2 - 2) (drop 2 (l₁ ++ drop 2 out))) → s₂ ≡ with_part (l₁ ++ drop 2 out) 2 (n + 2 - 2) l₂ → key ≡ cipher_key c
       → l₃ ≡ ofb (aes_encrypt key) 16 iv (take (n + 2 - 2) (drop 2 s₂)) → length l₃ ≡ length (take (n + 2 - 2) (drop 2 s₂)) → s₃ ≡ with_part s₂ 2 (n + 2 - 2) l₃
       → mac' ≡ ofb (aes_encrypt key) 16 (ofb_input (aes_encrypt key) 16 (blocks 16 (length (take (n + 2 - 2) (drop 2 s₂)))) iv) mac → length mac' ≡ length mac
       → l₄ ≡ mac' → (n + 10 ≡ length (aes_sealed c code number id payload)) × (with_part s₃ (n + 2) (n + 10 - (n + 2)) l₄ ≡ over (aes_sealed c code number id payload) out)
@@ -103,7 +103,7 @@ module _ (code number : ℕ) (id c payload out : List ℕ) (room : length payloa
   sealed_written c3 iv mk mac key l₁ l₂ s₂ l₃ s₃ mac' l₄ e3 eiv emk em lm h₁ h₂ e₂ ek h₃ k₃ e₃ h₄ k₄ h₅ =
       let num : List ℕ = number_bytes number in
       let w₁ : l₁ ++ drop 2 out ≡ over num out = placed_over num out l₁ 2 refl h₁ in
-      let w₂ : s₂ ≡ over (num ++ payload) out = e₂ ∙ placed_next num out (l₁ ++ drop 2 out) 2 (n + 2 - 2) refl (omega arith) w₁ payload l₂ (omega arith) h₂ in
+      let w₂ : s₂ ≡ over (num ++ payload) out = e₂ ∙ copied_next num out (l₁ ++ drop 2 out) 2 (n + 2 - 2) refl (omega arith) w₁ payload l₂ (omega arith) h₂ in
       let f : take (n + 2 - 2) (drop 2 s₂) ≡ payload = last_piece num payload out s₂ 2 (n + 2 - 2) refl (omega arith) w₂ in
       let w₃ : s₃ ≡ over (num ++ l₃) out = e₃ ∙ put_again num payload out s₂ 2 (n + 2 - 2) refl (omega arith) w₂ l₃ k₃ in
       let l : length (num ++ l₃) ≡ n + 2 = length-append num l₃ ∙ omega (arith, k₃ ∙ ap length f) in

@@ -8,7 +8,7 @@ use lib.Seq.{length-take-le}
 use Rattle.cipher.specs.Sp80038a.{whole, on_whole}
 use Rattle.cipher.proofs.Modes.{on_whole_lem}
 use Rattle.answer.specs.Outcome.{over}
-use Rattle.answer.proofs.Outputs.{front, replaced, placed_over}
+use Rattle.answer.proofs.Outputs.{front, replaced, copied_over}
 
 -- such a call accepts a front of n bytes, where n is whole
 pub accepts_front : (w n : ℕ) (s : List ℕ) (ok : Bool) → ok ≡ whole w (take n s) → n ≤ length s → n % w ≡ 0 → ok ≡ true
@@ -26,7 +26,7 @@ module _ (w : ℕ) (f : List ℕ → List ℕ) where
       let l : length last ≡ n = ll ∙ ap length g ∙ long in
       (ap length (sym p) ∙ l, replaced b o s n long e last l ∙ ap (λ (z : List ℕ). over z o) p)
 
-  -- b was put there first
-  pub placed_in_place : (b o first last : List ℕ) → length b % w ≡ 0 → first ≡ b → last ≡ on_whole w f (take (length b) (first ++ drop (length b) o))
-      → length last ≡ length (take (length b) (first ++ drop (length b) o)) → (length (f b) ≡ length b) × (last ++ drop (length b) (first ++ drop (length b) o) ≡ over (f b) o)
-  placed_in_place b o first last h e el ll = in_place b o (first ++ drop (length b) o) last (length b) refl (placed_over b o first (length b) refl e) h el ll
+  -- b was copied over o first
+  pub copied_in_place : (b o s last : List ℕ) → length b % w ≡ 0 → length b ≤ length o → s ≡ take (length o) b ++ drop (length b) o
+      → last ≡ on_whole w f (take (length b) s) → length last ≡ length (take (length b) s) → (length (f b) ≡ length b) × (last ++ drop (length b) s ≡ over (f b) o)
+  copied_in_place b o s last h k es el ll = in_place b o s last (length b) refl (copied_over b o s k es) h el ll

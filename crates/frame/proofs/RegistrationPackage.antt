@@ -16,8 +16,8 @@ use Rattle.frame.specs.Package.{package_cipher, package_mac, packaged, package_r
 use Rattle.answer.specs.Tests.{isnt, either}
 use Rattle.answer.proofs.Rows.{AllFalse, right_length}
 use Rattle.answer.proofs.Refusals.{either_of}
-use Rattle.frame.proofs.Fronts.{in_place, placed_in_place}
-use Rattle.answer.proofs.Outputs.{placed_over, over_over}
+use Rattle.frame.proofs.Fronts.{in_place, copied_in_place}
+use Rattle.answer.proofs.Outputs.{copied_over, over_over}
 
 -- ---- the rows
 
@@ -50,13 +50,12 @@ module _ (key plain room : ℕ) (eight : key ≡ 8) where
 -- ---- the bytes
 
 -- the cipher text under the complemented key stands over o
-pub cipher_written : (key k plain o first last : List ℕ) → length plain % 8 ≡ 0 → first ≡ plain
-    → length key ≡ 8 → k ≡ key ⊕ replicate 8 255 → last ≡ on_whole 8 (cbc_encrypt (des_encrypt k) 8 (replicate 8 0)) (take (length plain) (first ++ drop (length plain) o))
-    → length last ≡ length (take (length plain) (first ++ drop (length plain) o))
-    → (length (package_cipher key plain) ≡ length plain) × (last ++ drop (length plain) (first ++ drop (length plain) o) ≡ over (package_cipher key plain) o)
+pub cipher_written : (key k plain o s last : List ℕ) → length plain % 8 ≡ 0 → length plain ≤ length o → s ≡ take (length o) plain ++ drop (length plain) o
+    → length key ≡ 8 → k ≡ key ⊕ replicate 8 255 → last ≡ on_whole 8 (cbc_encrypt (des_encrypt k) 8 (replicate 8 0)) (take (length plain) s) → length last ≡ length (take (length plain) s)
+    → (length (package_cipher key plain) ≡ length plain) × (last ++ drop (length plain) s ≡ over (package_cipher key plain) o)
 unfolding package_cipher
-cipher_written key k plain o first last w e eight ek el ll =
-    placed_in_place 8 (cbc_encrypt (des_encrypt (complement key)) 8 (replicate 8 0)) plain o first last w e (rw (ek ∙ sym (complement_is 8 key eight)) at el) ll
+cipher_written key k plain o s last w fits es eight ek el ll =
+    copied_in_place 8 (cbc_encrypt (des_encrypt (complement key)) 8 (replicate 8 0)) plain o s last w fits es (rw (ek ∙ sym (complement_is 8 key eight)) at el) ll
 
 -- its last block
 pub last_block : (key plain o s r : List ℕ) → length (package_cipher key plain) ≡ length plain → 8 ≤ length plain → s ≡ over (package_cipher key plain) o
@@ -70,11 +69,11 @@ last_block key plain o s r l h es er =
     er ∙ rw (es, drop-append-le (n - 8) c (drop (length c) o) f) (take_at (drop (n - 8) c) (drop (length c) o) (n - (n - 8)) g)
 
 -- the package again, over its cipher text
-pub plain_again : (key plain o s last : List ℕ) → length (package_cipher key plain) ≡ length plain → s ≡ over (package_cipher key plain) o → last ≡ plain
-    → last ++ drop (length plain) s ≡ over plain o
-plain_again key plain o s last l es e =
+pub plain_again : (key plain o s s' : List ℕ) → length (package_cipher key plain) ≡ length plain → length plain ≤ length s → s ≡ over (package_cipher key plain) o
+    → s' ≡ take (length s) plain ++ drop (length plain) s → s' ≡ over plain o
+plain_again key plain o s s' l h es e =
     let g : length (package_cipher key plain) ≤ length plain = omega arith in
-    placed_over plain s last (length plain) refl e ∙ ap (over plain) es ∙ over_over (package_cipher key plain) plain o g
+    copied_over plain s s' h e ∙ ap (over plain) es ∙ over_over (package_cipher key plain) plain o g
 
 -- with its MAC, encrypted in place
 pub package_written : (key plain mac o s last : List ℕ) → length plain % 8 ≡ 0 → mac ≡ package_mac key plain → length mac ≡ 8 → s ≡ over (plain ++ mac) o

@@ -23,14 +23,15 @@ const AUTHENTICATION2_MAX: usize = 240;
 
 const SEALED_MAX: usize = 253;
 
-// Decrypts data over the front of work.
+// Decrypts data over the front of work. A copy of unknown length, here and elsewhere, goes by cipher::copy, which is memcpy in the archive:
+// copy_from_slice would be memmove.
 fn decrypt_over(key: [u8; 8], data: &[u8], work: &mut [u8])
     requires data_len { length «data».now % 8 ≡ 0 }
     requires data_in_bounds { length «data».now ≤ length work.old }
     ensures { (length (des_plain key «data».now) ≡ length «data».now) × (work.new ≡ over (des_plain key «data».now) work.old) }
 {
     let n = data.len();
-    work[..n].copy_from_slice(data);
+    cipher::copy(data, work);
     cipher::decrypt_des_cbc_zero_iv(&mut work[..n], key).unwrap();
 }
 
@@ -72,7 +73,7 @@ pub fn encrypt_authentication2_payload(key: &[u8], payload: &[u8], out: &mut [u8
         return Err(Refusal::TooLong);
     }
     let mut work = [0u8; 256];
-    work[..n].copy_from_slice(payload);
+    cipher::copy(payload, &mut work);
     let end = seal_front(AUTHENTICATION2_CODE, key, &mut work, n);
     answer::deliver(0, &work[..end], out)
 }
@@ -319,10 +320,9 @@ fn write_des(code: u8, head: SecureResponseHeader, key: [u8; 8], payload: &[u8],
     ensures size { des_size (length payload.now) ≡ length (des_sealed key code head.transaction_number head.transaction_id payload.now) }
     ensures out_after { out.new ≡ over (des_sealed key code head.transaction_number head.transaction_id payload.now) out.old }
 {
-    let end = payload.len() + 8;
     head.write(out);
-    out[8..end].copy_from_slice(payload);
-    seal_front(code, key, out, end);
+    cipher::copy(payload, &mut out[8..]);
+    seal_front(code, key, out, payload.len() + 8);
 }
 
 // Seals a command or a response with its number and ID under the session key, over the front of a work block; or 17 and 12 by lengths.

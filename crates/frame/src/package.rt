@@ -13,7 +13,7 @@ fn package_mac(key: [u8; 8], plain: &[u8], out: &mut [u8]) -> [u8; 8]
     ensures { (result ≡ package_mac key plain.now) × (length (package_cipher key plain.now) ≡ length plain.now) × (out.new ≡ over (package_cipher key plain.now) out.old) }
 {
     let n = plain.len();
-    out[..n].copy_from_slice(plain);
+    cipher::copy(plain, out);
     cipher::encrypt_des_cbc_zero_iv(&mut out[..n], cipher::xor_blocks(key, [255u8; 8])).unwrap();
     answer::fit(&out[n - 8..n])
 }
@@ -28,7 +28,7 @@ fn write_package(key: [u8; 8], plain: &[u8], out: &mut [u8]) -> usize
     let n = plain.len();
     let size = n + 8;
     let mac = package_mac(key, plain, out);
-    out[..n].copy_from_slice(plain);
+    cipher::copy(plain, out);
     out[n..size].copy_from_slice(&mac);
     cipher::encrypt_des_cbc_zero_iv(&mut out[..size], key).unwrap();
     size

@@ -104,7 +104,7 @@ fn write_aes(
     let iv = build_initial_vector_v2_aes128(n, code, number, id, credentials.challenge_3c);
     let mut mac = calculate_mac_v2_aes128(iv, payload, credentials.mac_key);
     out[..2].copy_from_slice(&number.to_le_bytes());
-    out[2..end].copy_from_slice(payload);
+    cipher::copy(payload, &mut out[2..end]);
     cipher::apply_aes128_ofb_parts(&mut out[2..end], &mut mac, credentials.cipher_key, iv);
     out[end..n + 10].copy_from_slice(&mac);
 }
@@ -186,7 +186,7 @@ fn decrypt_in_work_block(
     let len = sealed.len();
     let iv = build_initial_vector_v2_aes128(len, code, number, id, credentials.challenge_3c);
     let mut work = [0u8; 256];
-    work[..len].copy_from_slice(sealed);
+    cipher::copy(sealed, &mut work);
     cipher::apply_aes128_ofb_parts(&mut work[..len], &mut mac, credentials.cipher_key, iv);
     let payload = &work[..len];
     let wanted = calculate_mac_v2_aes128(iv, payload, credentials.mac_key);

@@ -3,12 +3,12 @@ use Prim.Native.Nat.{ℕ, ◌+◌, ◌≤◌, ◌<◌}
 use native.Mathlib.Omega.{arith}
 use borrow.Author.Rules.{rules}
 use borrow.Author.Tests.{eq-eqb, lt-ltb, le-ltb}
-use mathlib.Core.List.{List, ◌++◌}
-use lib.ListN.{length, take, drop, replicate}
-use lib.Seq.{length_front, length-take-le}
+use mathlib.Core.List.{List}
+use lib.ListN.{length, replicate}
+use lib.Seq.{length-take-le}
 use Rattle.answer.specs.Outcome.{choose, first_of, over}
 use Rattle.answer.specs.Tests.{isnt, both}
-use Rattle.answer.proofs.Outputs.{placed_over}
+use Rattle.answer.proofs.Outputs.{copied_over}
 use Rattle.answer.proofs.Rows.{numbered, one_17, row_meets}
 use Rattle.frame.specs.Authentication2.{auth2_code, auth2_seal_rows, auth2_size, auth2_sealed}
 use Rattle.frame.specs.DesFrame.{des_seal}
@@ -33,22 +33,14 @@ returns-then-n-gt-AUTHENTICATION2_MAX c =
     rw (auth2_seal_steps a.key.now a.payload.now (length a.out.now))
     (row_meets (auth2_seal_rows (length a.key.now) n) _ _ a.out.now refl (rw (eq-eqb _ _ c.in_ok-key.ensures.0, lt-ltb _ _ h)))
 
--- what was sealed in a work block of 256 bytes is inside it
-fits : (payload first : List ℕ) (n : ℕ) (w : List ℕ) → length first ≡ length (take n (replicate {A = ℕ} 256 0)) → length w ≡ length (first ++ drop n (replicate {A = ℕ} 256 0)) → length payload + pad_count (length payload) ≤ 240
-    → (end : ℕ) → end ≡ length payload + pad_count (length payload) + 8 → end ≤ length w
-fits payload first n w l m h end e =
-    let z : List ℕ = replicate 256 0 in
-    let k : length (first ++ drop n z) ≡ 256 = length_front z first n l in
-    omega arith
-
 pub seal_front-end-requires : goal.seal_front-end-requires
-seal_front-end-requires c = rw (length_front (replicate 256 0) c.copy_from_slice.new.self _ c.copy_from_slice.auto.self) (omega (arith, short_padded _ c.if-n-gt-AUTHENTICATION2_MAX.false))
+seal_front-end-requires c = omega (arith, short_padded _ c.if-n-gt-AUTHENTICATION2_MAX.false)
+
+pub slice_bounds-work-end : goal.slice_bounds-work-end
+slice_bounds-work-end c = omega (arith, short_padded _ c.if-n-gt-AUTHENTICATION2_MAX.false, c.seal_front-end.ensures.0)
 
 pub slice_bounds-deliver-end : goal.slice_bounds-deliver-end
-slice_bounds-deliver-end c = sym (length-take-le _ _ (fits c.args.payload.now c.copy_from_slice.new.self _ c.seal_front-end.new.out c.copy_from_slice.auto.self c.seal_front-end.auto.out (short_padded _ c.if-n-gt-AUTHENTICATION2_MAX.false) _ c.seal_front-end.ensures.0))
-
-pub slice_bounds-work-end-2 : goal.slice_bounds-work-end-2
-slice_bounds-work-end-2 c = fits c.args.payload.now c.copy_from_slice.new.self _ c.seal_front-end.new.out c.copy_from_slice.auto.self c.seal_front-end.auto.out (short_padded _ c.if-n-gt-AUTHENTICATION2_MAX.false) _ c.seal_front-end.ensures.0
+slice_bounds-deliver-end c = sym (length-take-le _ _ (omega (arith, short_padded _ c.if-n-gt-AUTHENTICATION2_MAX.false, c.seal_front-end.ensures.0)))
 
 pub returns : goal.returns
 unfolding auth2_sealed auth2_size auth2_seal_rows numbered both first_of choose isnt
@@ -58,7 +50,7 @@ returns c =
     let o = a.out.now in
     let k = c.in_ok-key.ensures in
     let l = short_padded _ c.if-n-gt-AUTHENTICATION2_MAX.false in
-    let q = sealed_over auth2_code (length p) _ c.in_ok-key.key p (replicate 256 0) _ _ refl (placed_over p (replicate 256 0) _ (length p) refl c.copy_from_slice.ensures.after) c.seal_front-end.ensures in
+    let q = sealed_over auth2_code (length p) _ c.in_ok-key.key p (replicate 256 0) _ _ refl (copied_over p (replicate 256 0) _ (omega arith) c.copy.ensures) c.seal_front-end.ensures in
     let b : des_seal c.in_ok-key.key auth2_code (pad p) ≡ des_seal a.key.now auth2_code (pad p) = ap (λ (k : List ℕ). des_seal k auth2_code (pad p)) k.1 in
     rw (auth2_seal_steps a.key.now p (length o))
     (delivered (auth2_seal_rows (length a.key.now) (length p)) (des_seal a.key.now auth2_code (pad p)) (length p + pad_count (length p) + 8) refl c.seal_front-end.result (replicate 256 0) c.seal_front-end.new.out

@@ -9,7 +9,7 @@ pub returns : goal.returns
 returns c =
     let a = c.args in
     let k = a.credentials in
-    rw (← aes_opened a.code a.number a.id (bytes_of k) a.sealed.now a.mac (replicate 256 0) (omega arith) (omega arith) (length a.out.now) _ _ _ _ _ _ _ _
-    (challenge_3c_is k (omega arith) (omega arith)) c.build_initial_vector_v2_aes128-iv.ensures c.copy_from_slice.ensures.after (cipher_key_is k (omega arith) (omega arith)) c.apply_aes128_ofb_parts.ensures.first_after c.apply_aes128_ofb_parts.auto.first
+    rw (← aes_opened a.code a.number a.id (bytes_of k) a.sealed.now a.mac (replicate 256 0) (omega arith) (omega arith) (omega arith) (length a.out.now) _ _ _ _ _ _ _ _
+    (challenge_3c_is k (omega arith) (omega arith)) c.build_initial_vector_v2_aes128-iv.ensures c.copy.ensures (cipher_key_is k (omega arith) (omega arith)) c.apply_aes128_ofb_parts.ensures.first_after c.apply_aes128_ofb_parts.auto.first
     c.apply_aes128_ofb_parts.ensures.second_after (mac_key_is k (omega arith) (omega arith)) c.calculate_mac_v2_aes128-wanted.ensures)
     c.accept_aes.ensures

@@ -12,15 +12,10 @@ use Rattle.frame.proofs.v2_aes.write_aes.Goals as goal
 
 pub slice_bounds-copy_from_slice-end-4 : goal.slice_bounds-copy_from_slice-end-4
 slice_bounds-copy_from_slice-end-4 c =
-    let h : length c.args.payload.now + 2 ≤ length (c.copy_from_slice.new.self ++ drop 2 c.args.out.now) = rw (length_front c.args.out.now c.copy_from_slice.new.self 2 c.copy_from_slice.auto.self) (omega arith) in
-    h
-
-pub slice_bounds-copy_from_slice-end-5 : goal.slice_bounds-copy_from_slice-end-5
-slice_bounds-copy_from_slice-end-5 c =
     let n = length c.args.payload.now in
     let s = c.copy_from_slice.new.self ++ drop 2 c.args.out.now in
-    reaches (with_part s 2 (n + 2 - 2) c.copy_from_slice-2.new.self) c.apply_aes128_ofb_parts.new.first 2 (n + 2 - 2) (n + 10) c.apply_aes128_ofb_parts.auto.first
-    (reaches s c.copy_from_slice-2.new.self 2 (n + 2 - 2) (n + 10) c.copy_from_slice-2.auto.self (rw (length_front c.args.out.now c.copy_from_slice.new.self 2 c.copy_from_slice.auto.self) c.requires.payload_in_bounds))
+    reaches (with_part s 2 (n + 2 - 2) c.copy.new.dst) c.apply_aes128_ofb_parts.new.first 2 (n + 2 - 2) (n + 10) c.apply_aes128_ofb_parts.auto.first
+    (reaches s c.copy.new.dst 2 (n + 2 - 2) (n + 10) c.copy.auto.dst (rw (length_front c.args.out.now c.copy_from_slice.new.self 2 c.copy_from_slice.auto.self) c.requires.payload_in_bounds))
 
 pub returns : goal.returns
 unfolding aes_size
@@ -29,10 +24,10 @@ returns c =
     let k = a.credentials in
     let n = length a.payload.now in
     let s₁ = c.copy_from_slice.new.self ++ drop 2 a.out.now in
-    let s₂ = with_part s₁ 2 (n + 2 - 2) c.copy_from_slice-2.new.self in
+    let s₂ = with_part s₁ 2 (n + 2 - 2) c.copy.new.dst in
     let s₃ = with_part s₂ 2 (n + 2 - 2) c.apply_aes128_ofb_parts.new.first in
     let w = sealed_written a.code a.number a.id (bytes_of k) a.payload.now a.out.now c.requires.payload_in_bounds _ _ _ _ _ _ _ s₂ _ s₃ _ _
     (challenge_3c_is k (omega arith) (omega arith)) c.build_initial_vector_v2_aes128-iv.ensures (mac_key_is k (omega arith) (omega arith)) c.calculate_mac_v2_aes128-mac.ensures (omega (arith, c.calculate_mac_v2_aes128-mac.type_inv))
-    (c.copy_from_slice.ensures.after ∙ c.to_le_bytes.ensures) c.copy_from_slice-2.ensures.after refl (cipher_key_is k (omega arith) (omega arith)) c.apply_aes128_ofb_parts.ensures.first_after c.apply_aes128_ofb_parts.auto.first refl
-    c.apply_aes128_ofb_parts.ensures.second_after c.apply_aes128_ofb_parts.auto.second c.copy_from_slice-3.ensures.after in
+    (c.copy_from_slice.ensures.after ∙ c.to_le_bytes.ensures) c.copy.ensures refl (cipher_key_is k (omega arith) (omega arith)) c.apply_aes128_ofb_parts.ensures.first_after c.apply_aes128_ofb_parts.auto.first refl
+    c.apply_aes128_ofb_parts.ensures.second_after c.apply_aes128_ofb_parts.auto.second c.copy_from_slice-2.ensures.after in
     record { size = w.0; out_after = w.1 }
