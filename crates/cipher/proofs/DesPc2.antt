@@ -1,13 +1,13 @@
 -- The numbers of the table PC2, and that they follow its rule. Assumes nothing.
-use mathlib.Core.Path.{refl}
 use mathlib.Core.Bool.{Bool}
 use mathlib.Core.List.{List, [], ◌∷◌}
-use Prim.Native.Nat.{ℕ, ◌/◌, ◌%◌}
+use mathlib.Core.Path.{◌≡◌}
+use Prim.Native.Nat.{ℕ, ◌/◌, ◌%◌, ◌<◌}
 use lib.Dec.{eqb, eqb→eq}
 use lib.ListN.{get_or}
 use Rattle.cipher.specs.Bits.{bool, digit, bits, num, num_from}
 use Rattle.cipher.specs.Fips46.{select, PC2}
-use Rattle.cipher.specs.inner.DesTables.{among, packed_places, places, pc2_bits, Pc2Table}
+use Rattle.cipher.specs.inner.DesTables.{among, packed_places, places, pc2_bits}
 use Rattle.cipher.proofs.Table.{at}
 
 right : ℕ → ℕ → Bool
@@ -144,6 +144,7 @@ pc2 =
     ∷ 134746112 ∷ 134746116 ∷ 134746368 ∷ 134746372 ∷ 134746112 ∷ 134746116 ∷ 134746368 ∷ 134746372
     ∷ 134746113 ∷ 134746117 ∷ 134746369 ∷ 134746373 ∷ 134746113 ∷ 134746117 ∷ 134746369 ∷ 134746373 ∷ []
 
-pub pc2_table_lem : Pc2Table pc2
+-- entry 128 m + x is the part that the bits x, as the m-th seven bits of C and D, have in a half of a round key
+pub pc2_entry : (i : ℕ) → i < 1024 → get_or pc2 i 0 ≡ num (pc2_bits (i / 128) (i % 128))
 unfolding pc2 right bool digit bits num num_from select PC2 among packed_places places pc2_bits
-pc2_table_lem = record { long = refl; entry = λ i h. eqb→eq (get_or pc2 i 0) (num (pc2_bits (i / 128) (i % 128))) (at right pc2 tt i h) }
+pc2_entry i h = eqb→eq (get_or pc2 i 0) (num (pc2_bits (i / 128) (i % 128))) (at right pc2 tt i h)

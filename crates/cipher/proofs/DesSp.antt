@@ -1,13 +1,13 @@
 -- The numbers of the table SP, and that they follow its rule. Assumes nothing.
-use mathlib.Core.Path.{refl}
 use mathlib.Core.Bool.{Bool}
 use mathlib.Core.List.{List, [], ◌∷◌}
-use Prim.Native.Nat.{ℕ, ◌/◌, ◌%◌}
+use mathlib.Core.Path.{◌≡◌}
+use Prim.Native.Nat.{ℕ, ◌/◌, ◌%◌, ◌<◌}
 use lib.Dec.{eqb, eqb→eq}
 use lib.ListN.{get_or}
 use Rattle.cipher.specs.Bits.{bool, digit, bits, num, num_from}
 use Rattle.cipher.specs.Fips46.{select, left_shift, substitute, P, S1, S2, S3, S4, S5, S6, S7, S8}
-use Rattle.cipher.specs.inner.DesTables.{among, box, sp_bits, SpTable}
+use Rattle.cipher.specs.inner.DesTables.{among, box, sp_bits}
 use Rattle.cipher.proofs.Table.{at}
 
 right : ℕ → ℕ → Bool
@@ -80,6 +80,7 @@ sp =
     ∷ 0 ∷ 268701760 ∷ 262208 ∷ 268435520 ∷ 268697600 ∷ 268439552 ∷ 268439616 ∷ 0
     ∷ 268701760 ∷ 266240 ∷ 266240 ∷ 4160 ∷ 4160 ∷ 262208 ∷ 268435456 ∷ 268701696 ∷ []
 
-pub sp_table_lem : SpTable sp
+-- entry 64 j + x is P of what S(j + 1) makes of x, in its place among the eight, turned left by one
+pub sp_entry : (i : ℕ) → i < 512 → get_or sp i 0 ≡ num (sp_bits (i / 64) (i % 64))
 unfolding sp right bool digit bits num num_from select left_shift substitute P S1 S2 S3 S4 S5 S6 S7 S8 among box sp_bits
-sp_table_lem = record { long = refl; entry = λ i h. eqb→eq (get_or sp i 0) (num (sp_bits (i / 64) (i % 64))) (at right sp tt i h) }
+sp_entry i h = eqb→eq (get_or sp i 0) (num (sp_bits (i / 64) (i % 64))) (at right sp tt i h)
