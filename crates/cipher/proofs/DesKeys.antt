@@ -14,6 +14,7 @@ use lib.ListN.{length, take, drop, get_or, set, length-set}
 use native.Mathlib.Numerals.{add-one}
 use lib.Seq.{take_at, drop_at, take-suc-set, drop-cons, take_all}
 use Rattle.std.proofs.lemmas.List.{map-append}
+use Rattle.cipher.specs.declared.des.TheConstants.{PC2_ENTRIES}
 use Rattle.cipher.specs.Bits.{bits, num, ◌⊞◌, to_bits}
 use Rattle.cipher.specs.Bytes.{tab}
 use Rattle.cipher.specs.Fips46.{select, left_shift, shifts, keys_from, KS, PC1, PC2}
@@ -22,7 +23,7 @@ use Rattle.cipher.specs.inner.DesWith.{keys_back}
 use Rattle.cipher.proofs.BitWords.{bit_at, down, bits_down, bits_shr, length_bits, length_select, bits_mod, bits_join, bits_split, bits_num}
 use Rattle.cipher.proofs.BitWords.{select_append}
 use Rattle.cipher.proofs.DesWords.{mirrored, loaded}
-use Rattle.cipher.proofs.DesPc2.{pc2, pc2_entry}
+use Rattle.cipher.proofs.DesPc2.{pc2_entry}
 use Rattle.cipher.proofs.Table.{at}
 
 -- ---- C0 and D0
@@ -111,7 +112,7 @@ pc2_low : (m x : ℕ) → pc2_bits m (x % 128) ≡ pc2_bits m x
 unfolding pc2_bits
 pc2_low m x = ap (λ (l : List Bool). select (places m) (among (7 * m) (49 - 7 * m) l)) (bits_mod 7 7 x (le_refl 7))
 
-pub pc2_pick : (m x : ℕ) → m < 8 → bits 32 (get_or pc2 (m * 128 + x % 128) 0) ≡ pc2_bits m x
+pub pc2_pick : (m x : ℕ) → m < 8 → bits 32 (get_or PC2_ENTRIES (m * 128 + x % 128) 0) ≡ pc2_bits m x
 pc2_pick m x k =
     let e : (m * 128 + x % 128) / 128 ≡ m = omega arith in
     let o : (m * 128 + x % 128) % 128 ≡ x % 128 = omega arith in
