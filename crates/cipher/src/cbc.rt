@@ -1,4 +1,5 @@
-// CBC with a zero IV (SP 800-38A, 6.2) over DES, in place.
+// CBC with a zero IV (SP 800-38A, 6.2) over DES, in place. Blocks go by index: std says nothing of a slice's elements after `chunks_exact_mut`.
+// Each direction has its own loop: as closures of one loop both need clauses of their own, and the loop a contract over any two functions.
 ghost use Rattle.std.specs.Prelude.{◌≡◌, replicate};
 ghost use Rattle.cipher.specs.Fips46.{des_encrypt, des_decrypt};
 ghost use Rattle.cipher.specs.Sp80038a.{cbc_encrypt, cbc_decrypt, whole, on_whole};
