@@ -269,7 +269,10 @@ impl KeySchedule {
         for key in self.round_keys[1..10].iter().rev() {
             state = state.inv_shift_sub().add_round_key(*key).inv_mix_columns();
         }
-        state.inv_shift_sub().add_round_key(self.round_keys[0]).store()
+        state
+            .inv_shift_sub()
+            .add_round_key(self.round_keys[0])
+            .store()
     }
 }
 
