@@ -98,7 +98,7 @@ pub extern "C" fn hernotxak_bench_des_cbc_encrypt(key: &[u8], text: &mut [u8]) -
     ensures { (result ≡ flag (whole 8 text.old)) × (text.new ≡ on_whole 8 (cbc_encrypt (des_encrypt (fit 8 key.now)) 8 (replicate 8 0)) text.old) }
 {
     let k = first8(key);
-    number(cipher::encrypt_des_cbc_zero_iv(text, k))
+    number(cipher::encrypt_des_cbc_zero_iv(text, k).is_ok())
 }
 
 // The way back, likewise.
@@ -107,7 +107,7 @@ pub extern "C" fn hernotxak_bench_des_cbc_decrypt(key: &[u8], text: &mut [u8]) -
     ensures { (result ≡ flag (whole 8 text.old)) × (text.new ≡ on_whole 8 (cbc_decrypt (des_decrypt (fit 8 key.now)) 8 (replicate 8 0)) text.old) }
 {
     let k = first8(key);
-    number(cipher::decrypt_des_cbc_zero_iv(text, k))
+    number(cipher::decrypt_des_cbc_zero_iv(text, k).is_ok())
 }
 
 // AES-128 in OFB, in place.

@@ -11,5 +11,5 @@ pub returns : goal.returns
 returns c =
     let key = c.first8-k.ensures in
     let done = c.decrypt_des_cbc_zero_iv.ensures in
-    let text = one (λ k. on_whole 8 (cbc_decrypt (des_decrypt k) 8 (replicate 8 0)) c.args.text.now) key done.1 in
-    (c.number.ensures ∙ ap flag done.0, text)
+    let text = one (λ k. on_whole 8 (cbc_decrypt (des_decrypt k) 8 (replicate 8 0)) c.args.text.now) key done.after in
+    (c.number.ensures ∙ ap flag (c.is_ok.ensures.value ∙ done.ok), text)
