@@ -27,6 +27,7 @@
 -- Modes: a turn of each mode's loop
 -- Numbers: facts about numbers
 -- Parity: DES never sees the lowest bit of a key's byte
+-- Subkeys: the next subkey of CMAC by arithmetic on a number of 128 bits
 -- Table: a table's rule at all of its entries, by one computed test
 -- Tabulation: `tab`, the list of f 0, f 1, ..
 -- Words: the bytes of words of 32 bits
@@ -60,6 +61,7 @@ pub mod ModeLaws
 pub mod Modes
 pub mod Numbers
 pub mod Parity
+pub mod Subkeys
 pub mod Table
 pub mod Tabulation
 pub mod Words
