@@ -14,14 +14,16 @@ use lib.ListN.{length, take, drop, get_or, set, length-set}
 use native.Mathlib.Numerals.{add-one}
 use lib.Seq.{take_at, drop_at, take-suc-set, drop-cons, take_all}
 use Rattle.std.proofs.lemmas.List.{map-append}
+use Rattle.cipher.specs.declared.des.TheConstants.{PC2_ENTRIES}
 use Rattle.cipher.specs.Bits.{bits, num, ◌⊞◌, to_bits}
 use Rattle.cipher.specs.Bytes.{tab}
 use Rattle.cipher.specs.Fips46.{select, left_shift, shifts, keys_from, KS, PC1, PC2}
-use Rattle.cipher.specs.inner.DesTables.{among, packed_places, places, pc2_bits, Pc2Table, transposed, key_bits}
+use Rattle.cipher.specs.inner.DesTables.{among, packed_places, places, pc2_bits, transposed, key_bits}
 use Rattle.cipher.specs.inner.DesWith.{keys_back}
-use Rattle.cipher.proofs.BitWords.{bit_at, down, bits_down, bits_shr, length_bits, length_select, bits_mod, bits_join, bits_split, bits_rotate, bits_num}
+use Rattle.cipher.proofs.BitWords.{bit_at, down, bits_down, bits_shr, length_bits, length_select, bits_mod, bits_join, bits_split, bits_num}
 use Rattle.cipher.proofs.BitWords.{select_append}
 use Rattle.cipher.proofs.DesWords.{mirrored, loaded}
+use Rattle.cipher.proofs.DesPc2.{pc2_entry}
 use Rattle.cipher.proofs.Table.{at}
 
 -- ---- C0 and D0
@@ -94,9 +96,6 @@ once_at i (inr e) = rw e
 pub twice : (i : ℕ) → i < 16 → 2 ≤ i → ((i ≡ 8) ⊎ (i ≡ 15) → ⊥) → get_or shifts i 0 ≡ 2
 twice i h k n = shift_count i h ∙ rw (le-ltb i 2 k, ne_eqb i 8 (λ e. n (inl e)), ne_eqb i 15 (λ e. n (inr e)))
 
-pub shift_word : (m n c k : ℕ) → c < 2 ^ (m + n) → k ≡ m → bits (n + m) (c % 2 ^ n * 2 ^ m + c / 2 ^ n) ≡ left_shift k (bits (m + n) c)
-shift_word m n c k h e = bits_rotate m n c h ∙ ap (λ (j : ℕ). left_shift j (bits (m + n) c)) (sym e)
-
 -- ---- PC-2
 
 length_places : (n : ℕ) → n < 2 → length (packed_places (take 24 (drop (n * 24) PC2))) ≡ 32
@@ -113,11 +112,11 @@ pc2_low : (m x : ℕ) → pc2_bits m (x % 128) ≡ pc2_bits m x
 unfolding pc2_bits
 pc2_low m x = ap (λ (l : List Bool). select (places m) (among (7 * m) (49 - 7 * m) l)) (bits_mod 7 7 x (le_refl 7))
 
-pub pc2_pick : (t : List ℕ) (m x : ℕ) → Pc2Table t → m < 8 → bits 32 (get_or t (m * 128 + x % 128) 0) ≡ pc2_bits m x
-pc2_pick t m x h k =
+pub pc2_pick : (m x : ℕ) → m < 8 → bits 32 (get_or PC2_ENTRIES (m * 128 + x % 128) 0) ≡ pc2_bits m x
+pc2_pick m x k =
     let e : (m * 128 + x % 128) / 128 ≡ m = omega arith in
     let o : (m * 128 + x % 128) % 128 ≡ x % 128 = omega arith in
-    ap (bits 32) (h.entry (m * 128 + x % 128) (omega arith))
+    ap (bits 32) (pc2_entry (m * 128 + x % 128) (omega arith))
     ∙ ap₂ (λ (i j : ℕ). bits 32 (num (pc2_bits i j))) e o
     ∙ bits_num 32 (pc2_bits m (x % 128)) (length_pc2 m (x % 128) k)
     ∙ pc2_low m x

@@ -1,4 +1,4 @@
--- The function f on words by the table SP, and the loops over the sixteen rounds. Assumes nothing.
+-- The function f on words by the table SP, and the rounds over a list of round keys. Assumes nothing.
 use mathlib.Core.Path.{◌≡◌, refl, sym, ap, ap₂, ◌∙◌}
 use mathlib.Core.Bool.{Bool}
 use mathlib.Core.List.{List, [], ◌∷◌, ◌++◌, append-nil, map}
@@ -10,11 +10,13 @@ use lib.Bits.{bit_xor, xor_shr}
 use lib.ListN.{length, take, drop, get_or, length-append}
 use lib.Seq.{take_at, drop_at, take_all}
 use Rattle.std.proofs.lemmas.List.{map-append}
+use Rattle.cipher.specs.declared.des.TheConstants.{SP}
 use Rattle.cipher.specs.Bits.{bits, num, ◌⊞◌, to_bits, to_bytes}
 use Rattle.cipher.specs.Fips46.{select, left_shift, substitute, substitute_all, f, P, E, IP, IP⁻¹, S1, S2, S3, S4, S5, S6, S7, S8, Halves, round, iterations, crypt}
 use Rattle.cipher.specs.Fips46.{des_encrypt, des_decrypt, tdea_encrypt, tdea_decrypt, tdea2_encrypt, tdea2_decrypt}
 use Rattle.cipher.specs.inner.DesWith.{des_with}
-use Rattle.cipher.specs.inner.DesTables.{among, held, holds, key_bits, box, sp_bits, SpTable}
+use Rattle.cipher.specs.inner.DesTables.{among, held, holds, key_bits, box, sp_bits}
+use Rattle.cipher.proofs.DesSp.{sp_entry}
 use Rattle.cipher.proofs.BitWords.{bit_at, down, bits_down, bits_shr, length_bits, bits_mod, bits_num, bits_xor, ⊞-append, select_append}
 
 -- ---- halves that are held turned left by one place
@@ -48,11 +50,11 @@ sp_low : (j x : ℕ) → sp_bits j (x % 64) ≡ sp_bits j x
 unfolding sp_bits
 sp_low j x = ap (λ (l : List Bool). left_shift 1 (select P (among (4 * j) (28 - 4 * j) (substitute (box j) l)))) (bits_mod 6 6 x (le_refl 6))
 
-pub sp_pick : (t : List ℕ) (j x : ℕ) → SpTable t → j < 8 → bits 32 (get_or t (j * 64 + x % 64) 0) ≡ sp_bits j x
-sp_pick t j x h k =
+pub sp_pick : (j x : ℕ) → j < 8 → bits 32 (get_or SP (j * 64 + x % 64) 0) ≡ sp_bits j x
+sp_pick j x k =
     let e : (j * 64 + x % 64) / 64 ≡ j = omega arith in
     let o : (j * 64 + x % 64) % 64 ≡ x % 64 = omega arith in
-    ap (bits 32) (h.entry (j * 64 + x % 64) (omega arith))
+    ap (bits 32) (sp_entry (j * 64 + x % 64) (omega arith))
     ∙ ap₂ (λ (i y : ℕ). bits 32 (num (sp_bits i y))) e o
     ∙ bits_num 32 (sp_bits j (x % 64)) (length_sp j (x % 64))
     ∙ sp_low j x

@@ -1,12 +1,11 @@
 -- The bytes of words of 32 bits, highest first, and lists of them. Assumes nothing.
-use mathlib.Core.Path.{◌≡◌, refl, sym, ap, ap₂, ◌∙◌}
+use mathlib.Core.Path.{◌≡◌, refl, ap, ap₂, ◌∙◌}
 use mathlib.Core.List.{List, [], ◌∷◌, ◌++◌, map}
-use Prim.Native.Nat.{ℕ, zero, suc, ◌+◌, ◌*◌, ◌/◌, ◌%◌, ◌^◌, ◌≤◌, ◌<◌}
+use Prim.Native.Nat.{ℕ, zero, suc, ◌+◌, ◌*◌, ◌/◌, ◌%◌, ◌^◌, ◌<◌}
 use native.Mathlib.Nat.{mod-lt}
 use native.Mathlib.Omega.{arith}
 use lib.Dec.{lit<}
-use lib.ListN.{length, take, drop, get_or}
-use lib.Seq.{drop-cons}
+use lib.ListN.{length, drop}
 use lib.Pow.{shr-shr}
 use lib.Bits.{bit_xor, bit_or, xor_shr, xor_mod, or_shifted, or_shifted_r}
 use Rattle.std.specs.Int.{w32, from_be_bytes, rotate_left, rotate_right}

@@ -21,12 +21,10 @@ fn apply(data: &mut [u8], keys: &KeySchedule, iv: [u8; 16]) -> [u8; 16]
     ensures next_input { result ≡ ofb_input (cipher keys.now) 16 (blocks 16 (length «data».old)) iv }
 {
     let mut input = iv;
-    let mut at = 0;
-    while at < data.len() {
+    for at in (0..data.len()).step_by(16) {
         let output = keys.encrypt_block(input);
         add_at(data, at, output);
         input = output;
-        at += 16;
     }
     input
 }

@@ -1,4 +1,5 @@
--- From no document: DES under round keys that are at hand, packed as the code packs them (DesTables). Assumes nothing.
+-- Of this crate alone: DES under round keys that are at hand, packed as the code packs them (DesTables), and the round keys from the last to the
+-- first. Assumes nothing.
 use Rattle.std.specs.Prelude.{ℕ, zero, suc, ◌-◌, Bool, List, [], ◌∷◌, ◌++◌, map, reverse, get_or}
 use Rattle.cipher.specs.Bits.{to_bits, to_bytes}
 use Rattle.cipher.specs.inner.DesTables.{key_bits}
