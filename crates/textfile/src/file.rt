@@ -1,4 +1,7 @@
 // A data file: its text, and each of its lines.
+ghost use Rattle.std.specs.Prelude.{IfOk};
+ghost use Rattle.textfile.specs.Table.{AreCounts};
+
 use crate::field::FieldError;
 use crate::table::{self, Tally, Verdict};
 use std::rt::Files;
@@ -14,6 +17,7 @@ pub fn run_file<R: Files + Print + AllocGlobal, F: FnMut(&str) -> Result<Verdict
     judge: F,
 ) -> io::Result<Tally>
     requires { F.IsAlwaysCallable judge }
+    ensures { IfOk result AreCounts }
 {
     let text = load(rt, file)?;
     let own = run_lines(rt, file, text.as_str(), judge)?;
@@ -43,6 +47,7 @@ fn run_lines<R: Print, F: FnMut(&str) -> Result<Verdict, FieldError>>(
     mut judge: F,
 ) -> io::Result<Tally>
     requires { F.IsAlwaysCallable judge }
+    ensures { IfOk result AreCounts }
 {
     let mut own = Tally::default();
     for (number, line) in (1u64..).zip(text.split_inclusive('\n')) {

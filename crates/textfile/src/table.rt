@@ -10,7 +10,7 @@ use std::alloc::AllocError;
 use std::io;
 use std::ops::{Add, AddAssign};
 
-// How many cases ran, how many agreed, and how many of these depart. The counts wrap, but not below 2^64 cases.
+// How many cases ran, how many agreed, and how many of these depart. The counts stop at 2^64 - 1.
 #[derive(Clone, Copy, Debug, Default, PartialEq, Eq)]
 pub struct Tally {
     pub ran: u64,
@@ -25,9 +25,9 @@ impl Add for Tally {
 
     fn add(self, other: Tally) -> Tally {
         Tally {
-            ran: self.ran.wrapping_add(other.ran),
-            agreed: self.agreed.wrapping_add(other.agreed),
-            departed: self.departed.wrapping_add(other.departed),
+            ran: self.ran.saturating_add(other.ran),
+            agreed: self.agreed.saturating_add(other.agreed),
+            departed: self.departed.saturating_add(other.departed),
         }
     }
 }
