@@ -255,7 +255,8 @@ impl KeyHalves {
         }
     }
 
-    // The halves of round i + 1 from those of round i: one place in rounds 1, 2, 9 and 16, else two.
+    // The halves of round i + 1 from those of round i: one place in rounds 1, 2, 9 and 16, else two. Each number of places has an arm of its own: with
+    // a variable one a fold is a tenth slower.
     fn shifted(self, i: usize) -> KeyHalves
         requires { i < 16 }
         ensures c { bits 28 result.c ≡ left_shift (get_or shifts i 0) (bits 28 self.c) }

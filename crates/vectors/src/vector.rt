@@ -94,8 +94,8 @@ fn cbc(fields: &Fields) -> Result<bool, FieldError> {
     let (plain, mut back) = messages(fields)?;
     let mut there = plain.clone()?;
     xor_front(&mut there, iv);
-    let is_there = cipher::encrypt_des_cbc_zero_iv(&mut there, key) && same(&there, &back);
-    let is_back = cipher::decrypt_des_cbc_zero_iv(&mut back, key);
+    let is_there = cipher::encrypt_des_cbc_zero_iv(&mut there, key).is_ok() && same(&there, &back);
+    let is_back = cipher::decrypt_des_cbc_zero_iv(&mut back, key).is_ok();
     xor_front(&mut back, iv);
     Ok(is_there && is_back && same(&back, &plain))
 }
