@@ -1,4 +1,5 @@
-// CBC with a zero IV (SP 800-38A, 6.2) over DES, in place.
+// CBC with a zero IV (SP 800-38A, 6.2) over DES, in place. Blocks are read and written at an index: std says nothing of a slice's elements after
+// `chunks_exact_mut`. Each direction has its own loop: closures of one loop would need clauses of their own, and that loop one over any two functions.
 ghost use Rattle.std.specs.Prelude.{◌≡◌, replicate};
 ghost use Rattle.cipher.specs.Fips46.{des_encrypt, des_decrypt};
 ghost use Rattle.cipher.specs.Sp80038a.{cbc_encrypt, cbc_decrypt, whole, on_whole};
@@ -21,8 +22,7 @@ pub fn encrypt_des_cbc_zero_iv(data: &mut [u8], key: [u8; 8]) -> Result<(), Part
     }
     let keys = KeySchedule::new(key);
     let mut before = [0u8; 8];
-    for i in 0..data.len() / 8 {
-        let at = i * 8;
+    for at in (0..data.len()).step_by(8) {
         let plain = bytes::load(data, at);
         let output = keys.encrypt(bytes::xor_blocks(plain, before));
         bytes::store(data, at, &output);
@@ -41,8 +41,7 @@ pub fn decrypt_des_cbc_zero_iv(data: &mut [u8], key: [u8; 8]) -> Result<(), Part
     }
     let keys = KeySchedule::new(key);
     let mut before = [0u8; 8];
-    for i in 0..data.len() / 8 {
-        let at = i * 8;
+    for at in (0..data.len()).step_by(8) {
         let sealed = bytes::load(data, at);
         let output = keys.decrypt(sealed);
         bytes::store(data, at, &bytes::xor_blocks(output, before));
