@@ -9,7 +9,7 @@ use std::marker::Model;
 
 // A state, or four words of the key schedule.
 #[derive(Clone, Copy)]
-pub(crate) struct Columns {
+struct Columns {
     a: u32,
     b: u32,
     c: u32,
@@ -184,7 +184,7 @@ fn sum_by_rows(p: u32, q: u32, r: u32, s: u32) -> u32
 
 // A round key, and the power of x in the round constant of the next.
 #[derive(Clone, Copy)]
-pub(crate) struct RoundKey {
+struct RoundKey {
     words: Columns,
     power: u8,
 }
@@ -276,7 +276,8 @@ impl KeySchedule {
     }
 }
 
-// The key serves one block alone, so each round key is made in its round.
+// The key serves one block alone, so each round key is made in its round, which is faster than a schedule.
+// The loop is that of encrypt_block: one over any source of round keys would have to ask it for the first and the last by themselves.
 pub fn encrypt_aes128_block(data: [u8; 16], key: [u8; 16]) -> [u8; 16]
     ensures { result ≡ aes_encrypt key «data» }
 {

@@ -66,20 +66,14 @@ pub fn aes128_cmac(data: &[u8], key: [u8; 16]) -> [u8; 16]
     mac_from(&keys, [0; 16], data)
 }
 
-fn mac_after_block(keys: &KeySchedule, first: [u8; 16], data: &[u8]) -> [u8; 16]
-    ensures { result ≡ cmac (cipher keys.now) 16 R128 (first ++ «data».now) }
-{
-    if data.len() == 0 {
-        return mac_from(keys, [0; 16], &first);
-    }
-    let state = keys.encrypt_block(first);
-    mac_from(keys, state, data)
-}
-
 // The MAC of a block followed by data.
 pub fn aes128_cmac_after_block(first: [u8; 16], data: &[u8], key: [u8; 16]) -> [u8; 16]
     ensures { result ≡ cmac (aes_encrypt key) 16 R128 (first ++ «data».now) }
 {
     let keys = KeySchedule::new(key);
-    mac_after_block(&keys, first, data)
+    if data.is_empty() {
+        return mac_from(&keys, [0; 16], &first);
+    }
+    let state = keys.encrypt_block(first);
+    mac_from(&keys, state, data)
 }

@@ -21,6 +21,7 @@ fn apply(data: &mut [u8], keys: &KeySchedule, iv: [u8; 16]) -> [u8; 16]
     ensures next_input { result ≡ ofb_input (cipher keys.now) 16 (blocks 16 (length «data».old)) iv }
 {
     let mut input = iv;
+    // data goes by index, since std says nothing of what a loop over chunks_mut wrote.
     for at in (0..data.len()).step_by(16) {
         let output = keys.encrypt_block(input);
         add_at(data, at, output);
