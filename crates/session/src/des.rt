@@ -6,9 +6,9 @@ ghost use Rattle.answer.specs.Tests.{same};
 
 #[derive(Clone, Copy)]
 pub struct AuthenticationContext {
-    l: [u8; 8],
-    alpha: [u8; 8],
-    beta: [u8; 8],
+    pub(crate) l: [u8; 8],
+    pub(crate) alpha: [u8; 8],
+    pub(crate) beta: [u8; 8],
 }
 
 impl AuthenticationContext {
@@ -26,17 +26,13 @@ impl AuthenticationContext {
     pub fn encrypt_challenge1a(self, random_1: [u8; 8]) -> [u8; 8]
         ensures { result ≡ tdea2_encrypt self.alpha self.l random_1 }
     {
-        let alpha = self.alpha;
-        let l = self.l;
-        cipher::encrypt_3des_block(random_1, alpha, l)
+        cipher::encrypt_3des_block(random_1, self.alpha, self.l)
     }
 
     pub fn decrypt_challenge1a(self, challenge_1a: [u8; 8]) -> [u8; 8]
         ensures { result ≡ tdea2_decrypt self.alpha self.l challenge_1a }
     {
-        let alpha = self.alpha;
-        let l = self.l;
-        cipher::decrypt_3des_block(challenge_1a, alpha, l)
+        cipher::decrypt_3des_block(challenge_1a, self.alpha, self.l)
     }
 
     pub fn encrypt_challenge2b(self, random_2: [u8; 8]) -> [u8; 8]
@@ -57,9 +53,7 @@ impl AuthenticationContext {
     pub fn encrypt_challenge1b(self, random_1: [u8; 8]) -> [u8; 8]
         ensures { result ≡ tdea2_encrypt self.l self.beta random_1 }
     {
-        let l = self.l;
-        let beta = self.beta;
-        cipher::encrypt_3des_block(random_1, l, beta)
+        cipher::encrypt_3des_block(random_1, self.l, self.beta)
     }
 
     pub fn verify_challenge1b(self, random_1: [u8; 8], challenge_1b: [u8; 8]) -> bool
@@ -78,8 +72,6 @@ impl AuthenticationContext {
     pub fn decrypt_challenge2a(self, challenge_2a: [u8; 8]) -> [u8; 8]
         ensures { result ≡ tdea2_decrypt self.l self.beta challenge_2a }
     {
-        let l = self.l;
-        let beta = self.beta;
-        cipher::decrypt_3des_block(challenge_2a, l, beta)
+        cipher::decrypt_3des_block(challenge_2a, self.l, self.beta)
     }
 }

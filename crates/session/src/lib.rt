@@ -3,7 +3,6 @@
 #![tactic(auto)]
 
 mod challenge;
-mod context;
 mod des;
 mod keys;
 mod types;
@@ -13,10 +12,6 @@ pub use challenge::{
     decrypt_challenge1a, decrypt_challenge2a, derive_secure_session_keys, encrypt_challenge1a,
     encrypt_challenge1b, encrypt_challenge2a, encrypt_challenge2b, verify_challenge1b,
     verify_challenge2b,
-};
-pub use context::{
-    AuthenticatedContext, Made, Received, Stepped, advance, increment_transaction_number, listed,
-    set_transaction_number,
 };
 pub use des::AuthenticationContext;
 pub use keys::{DerivedAuthKeys, derive_auth_keys};

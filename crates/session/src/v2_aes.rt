@@ -1,5 +1,5 @@
 // AES challenges and session keys (v2_aes.rs, AuthenticationContextV2Aes128). The context goes by value, and gives its blocks by methods.
-ghost use Rattle.std.specs.Prelude.{◌≡◌};
+ghost use Rattle.std.specs.Prelude.{◌≡◌, ◌++◌};
 ghost use Rattle.cipher.specs.Bytes.{◌⊕◌};
 ghost use Rattle.cipher.specs.Fips197.{aes_encrypt, aes_decrypt};
 ghost use Rattle.answer.specs.Tests.{same};
@@ -13,7 +13,7 @@ const DERIVE_MAC_KEY_INPUT: [u8; 16] =
 
 #[derive(Clone, Copy)]
 pub struct AuthenticationContextV2Aes128 {
-    alpha: [u8; 16],
+    pub(crate) alpha: [u8; 16],
     beta: [u8; 16],
 }
 
@@ -21,6 +21,18 @@ pub struct AuthenticationContextV2Aes128 {
 pub struct SecureSessionKeys {
     pub encryption_key: [u8; 16],
     pub mac_key: [u8; 16],
+}
+
+impl SecureSessionKeys {
+    // The two, one behind the other.
+    pub(crate) fn to_bytes(self) -> [u8; 32]
+        ensures { result ≡ self.encryption_key ++ self.mac_key }
+    {
+        let mut both = [0u8; 32];
+        both[..16].copy_from_slice(&self.encryption_key);
+        both[16..].copy_from_slice(&self.mac_key);
+        both
+    }
 }
 
 // The block that alpha (which is 1) or beta (2) encrypts.
@@ -31,7 +43,7 @@ fn build_authentication_context_block_v2_aes128(which: u8, idm: [u8; 8]) -> [u8;
     block[0] = which;
     block[1] = 0x02;
     block[14] = 0x01;
-    cipher::copy(&idm, &mut block[6..14]);
+    block[6..14].copy_from_slice(&idm);
     block
 }
 
@@ -52,15 +64,13 @@ impl AuthenticationContextV2Aes128 {
     pub fn encrypt_challenge1a(self, random_1: [u8; 16]) -> [u8; 16]
         ensures { result ≡ aes_encrypt self.alpha random_1 }
     {
-        let alpha = self.alpha;
-        cipher::encrypt_aes128_block(random_1, alpha)
+        cipher::encrypt_aes128_block(random_1, self.alpha)
     }
 
     pub fn decrypt_challenge1a(self, challenge_1a: [u8; 16]) -> [u8; 16]
         ensures { result ≡ aes_decrypt self.alpha challenge_1a }
     {
-        let alpha = self.alpha;
-        cipher::decrypt_aes128_block(challenge_1a, alpha)
+        cipher::decrypt_aes128_block(challenge_1a, self.alpha)
     }
 
     pub fn encrypt_challenge2b(self, random_2: [u8; 16]) -> [u8; 16]
@@ -78,13 +88,11 @@ impl AuthenticationContextV2Aes128 {
 
     // ---- 1B and 2A, under beta with Challenge 3C
 
-    fn beta_with_challenge_3c(self, challenge_3c: [u8; 4]) -> [u8; 16]
+    pub(crate) fn beta_with_challenge_3c(self, challenge_3c: [u8; 4]) -> [u8; 16]
         ensures { result ≡ with_3c self.beta challenge_3c }
     {
-        let beta = self.beta;
-        let mut beta_mask = [0u8; 16];
-        cipher::copy(&challenge_3c, &mut beta_mask);
-        cipher::xor_blocks16(beta, beta_mask)
+        let beta_mask = answer::fit(&challenge_3c);
+        cipher::xor_blocks16(self.beta, beta_mask)
     }
 
     pub fn encrypt_challenge1b(self, random_1: [u8; 16], challenge_3c: [u8; 4]) -> [u8; 16]
@@ -131,10 +139,8 @@ impl AuthenticationContextV2Aes128 {
 pub(crate) fn derive_keys(random_2: [u8; 16]) -> SecureSessionKeys
     ensures { (result.encryption_key ≡ aes_encrypt random_2 (session_key_input 1)) × (result.mac_key ≡ aes_encrypt random_2 (session_key_input 2)) }
 {
-    let encryption_key = cipher::encrypt_aes128_block(DERIVE_ENCRYPTION_KEY_INPUT, random_2);
-    let mac_key = cipher::encrypt_aes128_block(DERIVE_MAC_KEY_INPUT, random_2);
     SecureSessionKeys {
-        encryption_key,
-        mac_key,
+        encryption_key: cipher::encrypt_aes128_block(DERIVE_ENCRYPTION_KEY_INPUT, random_2),
+        mac_key: cipher::encrypt_aes128_block(DERIVE_MAC_KEY_INPUT, random_2),
     }
 }

@@ -1,18 +1,11 @@
-use mathlib.Core.Path.{sym, ◌∙◌}
-use Rattle.session.specs.Challenge.{under_alpha_back, reading_1a}
-use Rattle.session.proofs.Challenges.{gives_refused, gives}
+use Rattle.session.specs.Challenge.{reading_1a}
+use Rattle.session.proofs.Challenges.{give_refused, gives_back}
 use Rattle.session.proofs.challenge.decrypt_challenge1a.Goals as goal
 
-pub returns-then-is_wrong : goal.returns-then-is_wrong
+pub returns-in_err-alpha : goal.returns-in_err-alpha
 unfolding reading_1a
-returns-then-is_wrong c =
-    gives_refused _ _ _ _ _ _ c.is_wrong.ensures c.if-is_wrong.true c.refused.ensures
-
-pub under_alpha_back-block-requires : goal.under_alpha_back-block-requires
-under_alpha_back-block-requires c = sym c.is_wrong.ensures ∙ c.if-is_wrong.false
+returns-in_err-alpha c = give_refused _ _ _ _ _ _ _ _ c.from_residual.ensures.1 c.in_err-alpha.ensures
 
 pub returns : goal.returns
 unfolding reading_1a
-returns c =
-    let a = c.args in
-    gives _ _ _ (under_alpha_back a.scheme a.keys.now a.idm.now a.challenge_1a.now) _ _ c.is_wrong.ensures _ _ c.if-is_wrong.false c.under_alpha_back-block.ensures c.give.ensures
+returns c = gives_back _ _ _ _ _ _ c.in_ok-alpha.ensures _ _ _ _ c.read.ensures

@@ -1,19 +1,15 @@
-use lib.ListN.{length}
-use Rattle.session.specs.Challenge.{wrong_with_3c, under_beta_back, reading_2a}
-use Rattle.session.proofs.Challenges.{with_3c_lem, gives_refused, gives}
+use Rattle.session.specs.Challenge.{reading_2a, wrong_with_3c}
+use Rattle.session.proofs.Challenges.{give_3c, right_3c, give_refused, gives_back}
 use Rattle.session.proofs.challenge.decrypt_challenge2a.Goals as goal
 
-pub returns-then-is_wrong_with_3c : goal.returns-then-is_wrong_with_3c
-unfolding reading_2a
-returns-then-is_wrong_with_3c c =
-    let a = c.args in
-    gives_refused (wrong_with_3c a.scheme (length a.keys.now) (length a.idm.now) (length a.challenge_2a.now) (length a.challenge_3c.now)) _ _ _ _ _ c.is_wrong_with_3c.ensures c.if-is_wrong_with_3c.true c.refused.ensures
+pub returns-in_err-challenge_3c : goal.returns-in_err-challenge_3c
+unfolding reading_2a wrong_with_3c
+returns-in_err-challenge_3c c = give_3c _ _ _ _ c.from_residual.ensures.1 c.in_err-challenge_3c.ensures _ _ _
 
-pub under_beta_back-block-requires : goal.under_beta_back-block-requires
-under_beta_back-block-requires c = let p = with_3c_lem _ _ _ _ _ _ c.is_wrong_with_3c.ensures c.if-is_wrong_with_3c.false in record { not_wrong = p.0; challenge_3c_len = p.1 }
+pub returns-in_err-beta : goal.returns-in_err-beta
+unfolding reading_2a wrong_with_3c
+returns-in_err-beta c = rw (right_3c _ _ c.in_ok-challenge_3c.ensures.0) (give_refused _ _ _ _ _ _ _ _ c.from_residual-in_err-beta.ensures.1 c.in_err-beta.ensures)
 
 pub returns : goal.returns
-unfolding reading_2a
-returns c =
-    let a = c.args in
-    gives (wrong_with_3c a.scheme (length a.keys.now) (length a.idm.now) (length a.challenge_2a.now) (length a.challenge_3c.now)) _ _ (under_beta_back a.scheme a.keys.now a.idm.now a.challenge_3c.now a.challenge_2a.now) _ _ c.is_wrong_with_3c.ensures _ _ c.if-is_wrong_with_3c.false c.under_beta_back-block.ensures c.give.ensures
+unfolding reading_2a wrong_with_3c
+returns c = let h = c.in_ok-challenge_3c.ensures in rw (right_3c _ _ h.0, ← h.1) (gives_back _ _ _ _ _ _ c.in_ok-beta.ensures _ _ _ _ c.read.ensures)

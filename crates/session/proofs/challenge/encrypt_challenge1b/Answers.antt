@@ -1,19 +1,15 @@
-use lib.ListN.{length}
-use Rattle.session.specs.Challenge.{wrong_with_3c, under_beta, making_1b}
-use Rattle.session.proofs.Challenges.{with_3c_lem, gives_refused, gives}
+use Rattle.session.specs.Challenge.{making_1b, wrong_with_3c}
+use Rattle.session.proofs.Challenges.{give_3c, right_3c, give_refused, gives_there}
 use Rattle.session.proofs.challenge.encrypt_challenge1b.Goals as goal
 
-pub returns-then-is_wrong_with_3c : goal.returns-then-is_wrong_with_3c
-unfolding making_1b
-returns-then-is_wrong_with_3c c =
-    let a = c.args in
-    gives_refused (wrong_with_3c a.scheme (length a.keys.now) (length a.idm.now) (length a.random_1.now) (length a.challenge_3c.now)) _ _ _ _ _ c.is_wrong_with_3c.ensures c.if-is_wrong_with_3c.true c.refused.ensures
+pub returns-in_err-challenge_3c : goal.returns-in_err-challenge_3c
+unfolding making_1b wrong_with_3c
+returns-in_err-challenge_3c c = give_3c _ _ _ _ c.from_residual.ensures.1 c.in_err-challenge_3c.ensures _ _ _
 
-pub under_beta-block-requires : goal.under_beta-block-requires
-under_beta-block-requires c = let p = with_3c_lem _ _ _ _ _ _ c.is_wrong_with_3c.ensures c.if-is_wrong_with_3c.false in record { not_wrong = p.0; challenge_3c_len = p.1 }
+pub returns-in_err-beta : goal.returns-in_err-beta
+unfolding making_1b wrong_with_3c
+returns-in_err-beta c = rw (right_3c _ _ c.in_ok-challenge_3c.ensures.0) (give_refused _ _ _ _ _ _ _ _ c.from_residual-in_err-beta.ensures.1 c.in_err-beta.ensures)
 
 pub returns : goal.returns
-unfolding making_1b
-returns c =
-    let a = c.args in
-    gives (wrong_with_3c a.scheme (length a.keys.now) (length a.idm.now) (length a.random_1.now) (length a.challenge_3c.now)) _ _ (under_beta a.scheme a.keys.now a.idm.now a.challenge_3c.now a.random_1.now) _ _ c.is_wrong_with_3c.ensures _ _ c.if-is_wrong_with_3c.false c.under_beta-block.ensures c.give.ensures
+unfolding making_1b wrong_with_3c
+returns c = let h = c.in_ok-challenge_3c.ensures in rw (right_3c _ _ h.0, ← h.1) (gives_there _ _ _ _ _ _ c.in_ok-beta.ensures _ _ _ _ c.make.ensures)

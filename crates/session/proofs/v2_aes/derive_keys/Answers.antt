@@ -3,4 +3,4 @@ use Rattle.session.proofs.v2_aes.derive_keys.Goals as goal
 
 pub returns : goal.returns
 unfolding session_key_input
-returns c = (c.encrypt_aes128_block-encryption_key.ensures, c.encrypt_aes128_block-mac_key.ensures)
+returns c = (c.encrypt_aes128_block.ensures, c.encrypt_aes128_block-2.ensures)
