@@ -6,9 +6,9 @@ ghost use Rattle.answer.specs.Tests.{same};
 
 #[derive(Clone, Copy)]
 pub struct AuthenticationContext {
-    pub(crate) l: [u8; 8],
-    pub(crate) alpha: [u8; 8],
-    pub(crate) beta: [u8; 8],
+    l: [u8; 8],
+    alpha: [u8; 8],
+    beta: [u8; 8],
 }
 
 impl AuthenticationContext {
@@ -44,8 +44,7 @@ impl AuthenticationContext {
     pub fn verify_challenge2b(self, random_2: [u8; 8], challenge_2b: [u8; 8]) -> bool
         ensures { result ≡ same challenge_2b (tdea2_encrypt self.alpha self.l random_2) }
     {
-        let wanted = self.encrypt_challenge2b(random_2);
-        cipher::ct_eq(&challenge_2b, &wanted)
+        cipher::ct_eq(&challenge_2b, &self.encrypt_challenge2b(random_2))
     }
 
     // ---- 1B and 2A, under L and beta
@@ -59,8 +58,7 @@ impl AuthenticationContext {
     pub fn verify_challenge1b(self, random_1: [u8; 8], challenge_1b: [u8; 8]) -> bool
         ensures { result ≡ same challenge_1b (tdea2_encrypt self.l self.beta random_1) }
     {
-        let wanted = self.encrypt_challenge1b(random_1);
-        cipher::ct_eq(&challenge_1b, &wanted)
+        cipher::ct_eq(&challenge_1b, &self.encrypt_challenge1b(random_1))
     }
 
     pub fn encrypt_challenge2a(self, random_2: [u8; 8]) -> [u8; 8]

@@ -3,6 +3,7 @@
 #![tactic(auto)]
 
 mod challenge;
+mod context;
 mod des;
 mod keys;
 mod types;

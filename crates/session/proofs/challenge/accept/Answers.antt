@@ -1,13 +1,9 @@
-use Rattle.std.proofs.Common.{refl}
-use Rattle.answer.specs.Outcome.{decide, choose, over}
-use Rattle.answer.specs.Tests.{isnt}
-use Rattle.answer.proofs.Rows.{accepted_meets, refused_meets}
+use mathlib.Core.Path.{refl}
+use Rattle.session.proofs.Challenges.{equal_accepted, unequal_refused}
 use Rattle.session.proofs.challenge.accept.Goals as goal
 
 pub returns-then-equal : goal.returns-then-equal
-unfolding decide choose isnt over
-returns-then-equal c = rw c.if-equal.true (accepted_meets 0 _ _ _ _ refl c.sized.ensures.0 c.sized.ensures.1 refl)
+returns-then-equal c = equal_accepted _ _ c.if-equal.true _ refl c.sized.ensures
 
 pub returns-else-equal : goal.returns-else-equal
-unfolding decide choose isnt
-returns-else-equal c = rw c.if-equal.false (refused_meets 13 _ _ (refl, refl, refl))
+returns-else-equal c = unequal_refused _ _ c.if-equal.false (refl, refl, refl)

@@ -1,15 +1,31 @@
-use Rattle.session.specs.Challenge.{reading_2a, wrong_with_3c}
-use Rattle.session.proofs.Challenges.{give_3c, right_3c, give_refused, gives_back}
+use mathlib.Core.Path.{◌∙◌}
+use native.Mathlib.Omega.{arith}
+use lib.Dec.{lit≤}
+use borrow.Author.Rules.{rules}
+use Rattle.session.specs.Challenge.{reading_2a}
+use Rattle.session.proofs.Challenges.{wrong_3c, wrong_before_3c, right_3c, gives_refused, gives, des_size, aes_size, des_under_beta_back, aes_under_beta_back}
 use Rattle.session.proofs.challenge.decrypt_challenge2a.Goals as goal
 
 pub returns-in_err-challenge_3c : goal.returns-in_err-challenge_3c
-unfolding reading_2a wrong_with_3c
-returns-in_err-challenge_3c c = give_3c _ _ _ _ c.from_residual.ensures.1 c.in_err-challenge_3c.ensures _ _ _
+unfolding reading_2a
+returns-in_err-challenge_3c c =
+    let e = c.in_err-challenge_3c.ensures in
+    gives_refused _ _ _ _ (wrong_3c _ _ _ _ _ e.0) c.in_err-challenge_3c.field-0.0 _ (search rules) e.1
 
-pub returns-in_err-beta : goal.returns-in_err-beta
-unfolding reading_2a wrong_with_3c
-returns-in_err-beta c = rw (right_3c _ _ c.in_ok-challenge_3c.ensures.0) (give_refused _ _ _ _ _ _ _ _ c.from_residual-in_err-beta.ensures.1 c.in_err-beta.ensures)
+pub returns-in_err-context : goal.returns-in_err-context
+unfolding reading_2a
+returns-in_err-context c =
+    let e = c.in_err-context.ensures in
+    gives_refused _ _ _ _ (wrong_before_3c _ _ _ _ _ e.0) c.in_err-context.field-0.0 _ (search rules) e.1
 
-pub returns : goal.returns
-unfolding reading_2a wrong_with_3c
-returns c = let h = c.in_ok-challenge_3c.ensures in rw (right_3c _ _ h.0, ← h.1) (gives_back _ _ _ _ _ _ c.in_ok-beta.ensures _ _ _ _ c.read.ensures)
+pub returns-in-Des : goal.returns-in-Des
+unfolding reading_2a
+returns-in-Des c =
+    let p = c.in_ok-context.ensures in
+    gives _ _ _ _ (right_3c _ _ _ _ _ p.0 c.in_ok-challenge_3c.ensures.0) c.decrypt_challenge2a.result _ _ 8 (des_size _ _ _ _ _ p.1 _ _ c.in-Des.is) (omega (arith, c.decrypt_challenge2a.type_inv)) (lit≤ tt) (c.decrypt_challenge2a.ensures ∙ des_under_beta_back _ _ _ _ _ p.1 _ _ c.in-Des.is c.args.challenge_3c.now) c.deliver.ensures
+
+pub returns-in-Aes128 : goal.returns-in-Aes128
+unfolding reading_2a
+returns-in-Aes128 c =
+    let p = c.in_ok-context.ensures in
+    gives _ _ _ _ (right_3c _ _ _ _ _ p.0 c.in_ok-challenge_3c.ensures.0) c.decrypt_challenge2a-in-Aes128.result _ _ 16 (aes_size _ _ _ _ _ p.1 _ _ c.in-Aes128.is) (omega (arith, c.decrypt_challenge2a-in-Aes128.type_inv)) (lit≤ tt) (c.decrypt_challenge2a-in-Aes128.ensures ∙ aes_under_beta_back _ _ _ _ _ p.1 _ _ c.in-Aes128.is _ _ c.in_ok-challenge_3c.ensures.1) c.deliver-in-Aes128.ensures

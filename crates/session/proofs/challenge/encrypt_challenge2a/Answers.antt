@@ -1,6 +1,6 @@
-use Rattle.session.specs.Challenge.{making_1b, making_2a}
+use Rattle.session.specs.Challenge.{making_2a, making_1b}
 use Rattle.session.proofs.challenge.encrypt_challenge2a.Goals as goal
 
 pub returns : goal.returns
-unfolding making_1b making_2a
+unfolding making_2a making_1b
 returns c = c.encrypt_challenge1b.ensures

@@ -1,6 +1,6 @@
-use Rattle.session.specs.Challenge.{making_1a, making_2b}
+use Rattle.session.specs.Challenge.{making_2b, making_1a}
 use Rattle.session.proofs.challenge.encrypt_challenge2b.Goals as goal
 
 pub returns : goal.returns
-unfolding making_1a making_2b
+unfolding making_2b making_1a
 returns c = c.encrypt_challenge1a.ensures
