@@ -1,25 +1,29 @@
 -- AES opening, step by step. Assumes nothing.
-use mathlib.Core.Path.{◌≡◌, refl, sym, ap, ◌∙◌}
+use mathlib.Core.Path.{◌≡◌, refl, sym, ap, ap₂, ◌∙◌}
 use mathlib.Core.Bool.{Bool, true, false}
 use mathlib.Core.List.{List, [], ◌∷◌, ◌++◌}
-use Prim.Native.Nat.{ℕ, ◌+◌, ◌-◌, ◌/◌, ◌%◌, ◌≤◌, ◌<◌}
+use mathlib.Core.Logic.{⊎_elim}
+use Prim.Native.Nat.{ℕ, suc, ◌+◌, ◌-◌, ◌/◌, ◌%◌, ◌≤◌, ◌<◌}
 use native.Mathlib.Omega.{arith}
-use borrow.Author.Tests.{le-ltb}
+use borrow.Author.Tests.{eq-eqb, lt-ltb, le-ltb}
 use lib.Dec.{eqb, ltb}
-use lib.ListN.{length, take, drop, get_or, length-drop}
-use lib.Seq.{take_at, take_all}
+use lib.ListN.{length, take, drop, take-append-drop, length-append}
+use lib.Seq.{take_at, drop_at}
 use Rattle.cipher.specs.Fips197.{aes_encrypt}
 use Rattle.cipher.specs.Sp80038a.{blocks, ofb, ofb_input}
-use Rattle.cipher.proofs.Copies.{length_part}
+use Rattle.cipher.proofs.Numbers.{le_or_lt}
 use Rattle.cipher.specs.Bytes.{Bytes}
 use Rattle.answer.specs.Number.{number_bytes, number_of}
-use Rattle.answer.specs.Outcome.{Row, refused, accepted, row, choose, decide}
+use Rattle.std.specs.Int.{w16, from_le_bytes}
+use Rattle.answer.specs.declared.refusal.Refusal.{Refusal}
+use Rattle.answer.specs.declared.refusal.Refusal.TheVariants.{TooShort, TooLong}
+use Rattle.answer.specs.Refusal.{refusal_number}
+use Rattle.answer.specs.Outcome.{Row, refused, accepted, row, choose, decide, first_of}
 use Rattle.answer.specs.Delivery.{delivering}
 use Rattle.frame.specs.AesFrame.{cipher_key, mac_key, challenge_3c, aes_iv, aes_mac, mac_input, opened_iv, opened_payload, opened_mac, aes_opening, aes_open_rows}
 use Rattle.frame.specs.inner.AesSteps.{aes_accepting, aes_trying}
-use Rattle.answer.specs.Tests.{isnt, same}
+use Rattle.answer.specs.Tests.{isnt, either, same}
 use Rattle.answer.proofs.Rows.{both_right, decide_false}
-use Rattle.answer.proofs.Outputs.{placed_over, front}
 use Rattle.answer.proofs.Equality.{same_is}
 
 -- ---- the MAC
@@ -36,43 +40,62 @@ module _ (number : ℕ) (mac wanted payload : List ℕ) (room : ℕ) (r : Bool) 
 
 -- ---- the work block
 
--- the number's bytes are those in front
-front_bytes : (d : List ℕ) (number : ℕ) → 2 ≤ length d → Bytes d → number ≡ number_of d → number_bytes number ≡ take 2 d
-front_bytes [] number h b e = absurd (omega arith)
-front_bytes (x ∷ []) number h b e = absurd (omega arith)
-front_bytes (x ∷ y ∷ d) number h b e =
+add-two : (n : ℕ) → n + 2 ≡ suc (suc n)
+add-two n = omega arith
+
+-- ---- the parts of sealed data
+
+-- the number's bytes are the first two
+number_again : (d : List ℕ) (number : ℕ) → 2 ≤ length d → Bytes d → number ≡ from_le_bytes w16 (take 2 d) → number_bytes number ≡ take 2 d
+number_again [] number h b e = absurd (omega arith)
+number_again (x ∷ []) number h b e = absurd (omega arith)
+number_again (x ∷ y ∷ d) number h b e =
     let bx : x < 256 = b 0 in
     let by : y < 256 = b 1 in
     let l : number % 256 ≡ x = omega arith in
     let g : number / 256 % 256 ≡ y = omega arith in
     rw (l, g)
 
--- d was put over the front of z from its third byte on, but for its MAC, and decrypted there
-module _ (code : ℕ) (id c d z : List ℕ) (enough : 10 ≤ length d) (bytes : Bytes d) where
-  abbrev n : ℕ
-  n = length d - 10
+-- number, payload and MAC are all of it
+pub parts_joined : (d first rest sealed mac : List ℕ) (number : ℕ) → Bytes d → 2 ≤ length d → first ≡ take 2 d → rest ≡ drop 2 d → sealed ≡ take (length rest - 8) rest → mac ≡ drop (length rest - 8) rest
+    → number ≡ from_le_bytes w16 first → d ≡ number_bytes number ++ (sealed ++ mac)
+parts_joined d first rest sealed mac number b h ef er es em en =
+    let n : number_bytes number ≡ take 2 d = number_again d number h b (en ∙ ap (from_le_bytes w16) ef) in
+    let t : sealed ++ mac ≡ drop 2 d = ap₂ (λ (s m : List ℕ). s ++ m) es em ∙ take-append-drop (length rest - 8) rest ∙ er in
+    sym (ap₂ (λ (s m : List ℕ). s ++ m) n t ∙ take-append-drop 2 d)
 
-  pub aes_opened : (number room : ℕ) (c3 iv first mac key l mac' mk wanted : List ℕ) → number ≡ number_of d → c3 ≡ challenge_3c c
-      → iv ≡ aes_iv n code (number_bytes number) id c3 → first ≡ take (n + 2 - 2) (drop 2 d) → mac ≡ take (length d - (n + 2)) (drop (n + 2) d) → key ≡ cipher_key c
+-- ---- the work block
+
+-- number, cipher payload and MAC of sealed data, of which the payload was put over the front of z and decrypted there
+module _ (code number : ℕ) (id c sealed mac z : List ℕ) (small : number < 65536) (eight : length mac ≡ 8) where
+  abbrev d : List ℕ
+  d = number_bytes number ++ (sealed ++ mac)
+
+  abbrev n : ℕ
+  n = length sealed
+
+  length_parts : length d ≡ n + 10
+  length_parts = ap (λ (k : ℕ). suc (suc k)) (length-append sealed mac) ∙ omega arith
+
+  pub aes_opened : (room : ℕ) (c3 iv first key l mac' mk wanted : List ℕ) → c3 ≡ challenge_3c c → iv ≡ aes_iv n code (number_bytes number) id c3 → first ≡ sealed → key ≡ cipher_key c
       → l ≡ ofb (aes_encrypt key) 16 iv (take n (first ++ drop n z)) → length l ≡ length (take n (first ++ drop n z))
-      → mac' ≡ ofb (aes_encrypt key) 16 (ofb_input (aes_encrypt key) 16 (blocks 16 (length (take n (first ++ drop n z)))) iv) mac → mk ≡ mac_key c → wanted ≡ aes_mac mk iv (take n (l ++ drop n (first ++ drop n z)))
-      → aes_accepting number mac' wanted (take n (l ++ drop n (first ++ drop n z))) room ≡ aes_trying c code id d room
+      → mac' ≡ ofb (aes_encrypt key) 16 (ofb_input (aes_encrypt key) 16 (blocks 16 (length (take n (first ++ drop n z)))) iv) mac → mk ≡ mac_key c
+      → wanted ≡ aes_mac mk iv (take n (l ++ drop n (first ++ drop n z))) → aes_accepting number mac' wanted (take n (l ++ drop n (first ++ drop n z))) room ≡ aes_trying c code id d room
   unfolding aes_trying opened_payload opened_mac opened_iv mac_input
-  aes_opened number room c3 iv first mac key l mac' mk wanted en e3 eiv hw em ek el ll em' emk ew =
-      let k : n + 2 - 2 ≡ n = omega arith in
+  aes_opened room c3 iv first key l mac' mk wanted e3 eiv ef ek el ll em emk ew =
       let w : List ℕ = first ++ drop n z in
-      let part : List ℕ = take n (drop 2 d) in
-      let lp : length part ≡ n = length_part d 2 n (omega arith) in
-      let f : take n w ≡ part = front part z w n lp (placed_over part z first n lp (rw k at hw)) in
-      let lw : length (take n w) ≡ n = ap length f ∙ lp in
-      let b : n + 2 ≡ length d - 8 = omega arith in
-      let lm : length (drop (n + 2) d) ≤ length d - (n + 2) = rw length-drop (omega arith) in
-      let tail : mac ≡ drop (length d - 8) d = em ∙ take_all (length d - (n + 2)) (drop (n + 2) d) lm ∙ ap (λ (j : ℕ). drop j d) b in
-      let v : iv ≡ opened_iv c code id d = eiv ∙ rw (e3, front_bytes d number (omega arith) bytes en) in
-      let p : take n (l ++ drop n w) ≡ opened_payload c code id d = take_at l (drop n w) n (ll ∙ lw) ∙ el ∙ rw (ek, v, f) in
-      let m : mac' ≡ opened_mac c code id d = em' ∙ rw (ek, lw, v, tail) in
+      let f : take n w ≡ sealed = take_at first (drop n z) n (ap length ef) ∙ ef in
+      let lw : length (take n w) ≡ n = ap length f in
+      let k : length d - 10 ≡ n = omega (arith, length_parts) in
+      let j : length d - 8 ≡ n + 2 = omega (arith, length_parts) in
+      let part : take (length d - 10) (drop 2 d) ≡ sealed = rw k (take_at sealed mac n refl) in
+      let tail : drop (length d - 8) d ≡ mac = rw (j, add-two n) (drop_at sealed mac n refl) in
+      let v : iv ≡ opened_iv c code id d = eiv ∙ rw (e3, k) in
+      let p : take n (l ++ drop n w) ≡ opened_payload c code id d = take_at l (drop n w) n (ll ∙ lw) ∙ el ∙ rw (ek, v, f, part) in
+      let m : mac' ≡ opened_mac c code id d = em ∙ rw (ek, lw, v, tail, k) in
       let a : wanted ≡ aes_mac (mac_key c) (opened_iv c code id d) (opened_payload c code id d) = ew ∙ rw (emk, v, p) in
-      rw (en, m, a, p)
+      let en : number ≡ number_of d = omega arith in
+      rw (← en, m, a, p)
 
 -- ---- the rows by lengths
 
@@ -81,6 +104,17 @@ module _ (c id d : List ℕ) (code room : ℕ) where
   pub aes_open_steps : aes_opening c code id d room ≡ decide (aes_open_rows (length id) (length c) (length d)) (aes_trying c code id d room)
   unfolding aes_opening aes_open_rows aes_trying aes_accepting delivering decide
   aes_open_steps = refl
+
+  -- what the reader of its parts answered
+  pub aes_open_split : (e : Refusal) → length id ≡ 6 → length c ≡ 36 → (10 ≤ length d → (253 < length d) × (e ≡ TooLong)) × (length d < 10 → e ≡ TooShort)
+      → first_of (aes_open_rows (length id) (length c) (length d)) ≡ refusal_number e
+  unfolding aes_open_rows first_of choose isnt either
+  aes_open_split e i k h =
+      rw (eq-eqb _ _ i, eq-eqb _ _ k)
+      (⊎_elim
+      (λ (l : 10 ≤ length d). let s = h.0 l in rw (le-ltb (length d) 10 l, lt-ltb 253 (length d) s.0) (ap refusal_number (sym s.1)))
+      (λ (l : length d < 10). rw (lt-ltb (length d) 10 l) (ap refusal_number (sym (h.1 l))))
+      (le_or_lt 10 (length d)))
 
   -- none holds
   pub aes_open_tries : length id ≡ 6 → length c ≡ 36 → 10 ≤ length d → length d ≤ 253 → aes_opening c code id d room ≡ aes_trying c code id d room

@@ -1,15 +1,15 @@
 -- DES opening, step by step. Assumes nothing.
-use mathlib.Core.Path.{◌≡◌, refl, ap, ap₂, ◌∙◌}
+use mathlib.Core.Path.{◌≡◌, refl, sym, ap, ap₂, ◌∙◌}
 use mathlib.Core.Bool.{Bool, true, false}
 use mathlib.Core.List.{List, [], ◌∷◌, ◌++◌}
-use Prim.Native.Nat.{ℕ, ◌+◌, ◌-◌, ◌%◌, ◌≤◌}
+use Prim.Native.Nat.{ℕ, ◌+◌, ◌-◌, ◌%◌, ◌≤◌, ◌<◌}
 use native.Mathlib.Omega.{arith}
 use borrow.Author.Tests.{le-ltb}
 use lib.Dec.{eqb, ltb}
 use lib.ListN.{length, take, drop, length-drop}
 use lib.Seq.{take_all}
 use Rattle.cipher.specs.Fips46.{des_decrypt}
-use Rattle.cipher.specs.Fold.{under_each_back}
+use Rattle.cipher.specs.Fold.{back_from, under_each_back}
 use Rattle.answer.specs.Number.{number_of}
 use Rattle.answer.specs.Outcome.{Row, row, accepted, decide, choose, refused}
 use Rattle.answer.specs.Delivery.{delivering}
@@ -27,13 +27,23 @@ pub rest_part : (l : List ℕ) (e : ℕ) → take (length l - e) (drop e l) ≡ 
 rest_part l e = take_all (length l - e) (drop e l) (rw length-drop (omega arith))
 
 -- what is recovered from the MAC is compared with what it started as
-pub mac_checked : (code : ℕ) (plain mac back start : List ℕ) (r : Bool) → mac ≡ take (length plain - (length plain - 8)) (drop (length plain - 8) plain)
-    → back ≡ under_each_back des_decrypt 8 (take (length plain - 8) plain) mac → start ≡ mac_start (length plain + 2) code
-    → (r ≡ true → back ≡ start) × (back ≡ start → r ≡ true) → r ≡ mac_holds code plain
+pub mac_checked : (code : ℕ) (plain text mac back start : List ℕ) (r : Bool) → text ≡ take (length plain - 8) plain → mac ≡ drop (length plain - 8) plain
+    → back ≡ under_each_back des_decrypt 8 text mac → start ≡ mac_start (length plain + 2) code → (r ≡ true → back ≡ start) × (back ≡ start → r ≡ true) → r ≡ mac_holds code plain
 unfolding mac_holds recovered
-mac_checked code plain mac back start r em eb es h =
-    same_is back start r h
-    ∙ ap₂ same (eb ∙ ap (under_each_back des_decrypt 8 (take (length plain - 8) plain)) (em ∙ rest_part plain (length plain - 8))) es
+mac_checked code plain text mac back start r et em eb es h = same_is back start r h ∙ ap₂ same (eb ∙ ap₂ (under_each_back des_decrypt 8) et em) es
+
+-- under no key a block stays
+back_none : (s : List ℕ) → under_each_back des_decrypt 8 (take 0 s) s ≡ s
+unfolding under_each_back back_from
+back_none s = refl
+
+-- a plain text that is shorter than a MAC has none
+pub no_mac : (code : ℕ) (plain : List ℕ) → length plain < 8 → false ≡ mac_holds code plain
+unfolding mac_holds recovered mac_start
+no_mac code plain h =
+    let z : length plain - 8 ≡ 0 = omega arith in
+    let b : recovered plain ≡ plain = rw z (back_none plain) in
+    same_is (recovered plain) (mac_start (length plain + 2) code) false (λ e. cc, λ e. let l : length plain ≡ 8 = ap length (sym b ∙ e) in absurd (omega arith))
 
 -- ---- the plain text
 

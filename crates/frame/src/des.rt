@@ -16,6 +16,13 @@ use answer::{Answer, Refusal};
 
 const AUTHENTICATION2_CODE: u8 = 0x13;
 
+// The longest payloads, and the longest data to open.
+const PAYLOAD_MAX: usize = 232;
+
+const AUTHENTICATION2_MAX: usize = 240;
+
+const SEALED_MAX: usize = 253;
+
 // Decrypts data over the front of work.
 fn decrypt_over(key: [u8; 8], data: &[u8], work: &mut [u8])
     requires data_len { length «data».now % 8 ≡ 0 }
@@ -47,7 +54,7 @@ pub fn decrypt_authentication2_payload(key: &[u8], data: &[u8], out: &mut [u8]) 
     if n % 8 != 0 {
         return Err(Refusal::NotWholeBlocks);
     }
-    if 253 < n {
+    if SEALED_MAX < n {
         return Err(Refusal::TooLong);
     }
     let mut work = [0u8; 256];
@@ -61,7 +68,7 @@ pub fn encrypt_authentication2_payload(key: &[u8], payload: &[u8], out: &mut [u8
 {
     let key = answer::exact::<8>(key)?;
     let n = payload.len();
-    if 240 < n {
+    if AUTHENTICATION2_MAX < n {
         return Err(Refusal::TooLong);
     }
     let mut work = [0u8; 256];
@@ -199,7 +206,7 @@ pub fn decrypt_secure_response_des(
     if n < 16 {
         return Err(Refusal::TooShort);
     }
-    if 253 < n {
+    if SEALED_MAX < n {
         return Err(Refusal::TooLong);
     }
     let mut work = [0u8; 256];
@@ -271,12 +278,12 @@ pub(crate) fn calculate_command_mac_des(command_code: u8, plain: &[u8]) -> [u8; 
 
 // Whether a plain text ends with its MAC. All eight bytes of the MAC's start are recovered and compared.
 pub(crate) fn check_packet_mac_des(plain: &[u8], code: u8) -> bool
-    requires { 8 ≤ length plain.now }
     ensures { result ≡ mac_holds code plain.now }
 {
-    let end = plain.len() - 8;
-    let mac = answer::fit(&plain[end..]);
-    let recovered = cipher::decrypt_des_under_each(mac, &plain[..end]);
+    let Some((text, mac)) = plain.split_last_chunk::<8>() else {
+        return false;
+    };
+    let recovered = cipher::decrypt_des_under_each(*mac, text);
     let start = mac_start(plain.len() + 2, code);
     cipher::ct_eq(&recovered, &start)
 }
@@ -308,7 +315,7 @@ fn seal_front(code: u8, key: [u8; 8], out: &mut [u8], len: usize) -> usize
 pub(crate) fn size_des(n: usize) -> Result<usize, Refusal>
     ensures { HasSize 232 n (des_size n) result }
 {
-    if 232 < n {
+    if PAYLOAD_MAX < n {
         return Err(Refusal::TooLong);
     }
     Ok((n + 8).next_multiple_of(8) + 8)

@@ -1,8 +1,8 @@
 // Sealed AES data: number, cipher payload, cipher MAC (v2_aes.rs).
-ghost use Rattle.std.specs.Prelude.{◌≡◌, ◌+◌, ◌≤◌, length};
+ghost use Rattle.std.specs.Prelude.{◌≡◌, ◌+◌, ◌≤◌, ◌++◌, length};
 ghost use Rattle.answer.specs.Number.{number_bytes};
 ghost use Rattle.answer.specs.Outcome.{Meets, over};
-ghost use Rattle.frame.specs.inner.AesSteps.{bytes_of, ReadFrom, aes_accepting, aes_trying};
+ghost use Rattle.frame.specs.inner.AesSteps.{bytes_of, ReadFrom, Splits, aes_accepting, aes_trying};
 ghost use Rattle.frame.specs.inner.WorkBlock.{HasSize, SealsInto};
 ghost use Rattle.frame.specs.Authentication2.{auth2_opening_aes};
 ghost use Rattle.frame.specs.Scheme.{responding};
@@ -12,6 +12,9 @@ use crate::command;
 use answer::{Answer, Refusal};
 
 const AUTHENTICATION2_CODE: u8 = 0x43;
+
+// The longest payload.
+const PAYLOAD_MAX: usize = 243;
 
 // What a session with AES seals and opens under: 36 bytes.
 #[derive(Clone, Copy)]
@@ -76,7 +79,7 @@ fn calculate_mac_v2_aes128(iv: [u8; 16], payload: &[u8], mac_key: [u8; 16]) -> [
 pub(crate) fn size_aes(n: usize) -> Result<usize, Refusal>
     ensures { HasSize 243 n (aes_size n) result }
 {
-    if 243 < n {
+    if PAYLOAD_MAX < n {
         return Err(Refusal::TooLong);
     }
     Ok(n + 10)
@@ -155,27 +158,37 @@ fn accept_aes(number: u16, mac: [u8; 8], wanted: [u8; 8], payload: &[u8], out: &
     answer::deliver(number, payload, out)
 }
 
-// Decrypts data in a work block, so that a refusal shows nothing of it.
+// The parts of sealed data: number, cipher payload and cipher MAC; or 11 and 12 by its length.
+fn split_sealed(data: &[u8]) -> Result<(u16, &[u8], [u8; 8]), Refusal>
+    ensures { Splits «data».now result }
+{
+    let (number, rest) = data.split_first_chunk::<2>().ok_or(Refusal::TooShort)?;
+    let (sealed, mac) = rest.split_last_chunk::<8>().ok_or(Refusal::TooShort)?;
+    if PAYLOAD_MAX < sealed.len() {
+        return Err(Refusal::TooLong);
+    }
+    Ok((u16::from_le_bytes(*number), sealed, *mac))
+}
+
+// Decrypts the parts in a work block, so that a refusal shows nothing of them.
 fn decrypt_in_work_block(
     code: u8,
+    number: u16,
     id: [u8; 6],
     credentials: Credentials,
-    data: &[u8],
+    sealed: &[u8],
+    mut mac: [u8; 8],
     out: &mut [u8],
 ) -> Answer
-    requires in_bounds { 10 ≤ length «data».now }
-    requires data_len_bound { length «data».now ≤ 253 }
-    ensures { Meets (aes_trying (bytes_of credentials) code id «data».now (length out.old)) result out.old out.new }
+    requires { length sealed.now ≤ 243 }
+    ensures { Meets (aes_trying (bytes_of credentials) code id (number_bytes number ++ (sealed.now ++ mac)) (length out.old)) result out.old out.new }
 {
-    let n = data.len() - 10;
-    let end = n + 2;
-    let number = answer::transaction_number(data);
-    let iv = build_initial_vector_v2_aes128(n, code, number, id, credentials.challenge_3c);
+    let len = sealed.len();
+    let iv = build_initial_vector_v2_aes128(len, code, number, id, credentials.challenge_3c);
     let mut work = [0u8; 256];
-    work[..n].copy_from_slice(&data[2..end]);
-    let mut mac = answer::fit(&data[end..]);
-    cipher::apply_aes128_ofb_parts(&mut work[..n], &mut mac, credentials.cipher_key, iv);
-    let payload = &work[..n];
+    work[..len].copy_from_slice(sealed);
+    cipher::apply_aes128_ofb_parts(&mut work[..len], &mut mac, credentials.cipher_key, iv);
+    let payload = &work[..len];
     let wanted = calculate_mac_v2_aes128(iv, payload, credentials.mac_key);
     accept_aes(number, mac, wanted, payload, out)
 }
@@ -192,13 +205,8 @@ pub fn decrypt_secure_response_v2_aes128(
 {
     let id = answer::exact::<6>(id)?;
     let credentials = Credentials::parse(credentials)?;
-    if data.len() < 10 {
-        return Err(Refusal::TooShort);
-    }
-    if 253 < data.len() {
-        return Err(Refusal::TooLong);
-    }
-    decrypt_in_work_block(code, id, credentials, data, out)
+    let (number, sealed, mac) = split_sealed(data)?;
+    decrypt_in_work_block(code, number, id, credentials, sealed, mac, out)
 }
 
 // Opens an Authentication 2 response.

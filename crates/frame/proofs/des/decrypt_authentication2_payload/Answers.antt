@@ -22,10 +22,10 @@ unfolding auth2_opening auth2_open_rows first_of choose isnt
 returns-then-n-ne0 c =
     row_meets (auth2_open_rows (length c.args.key.now) (length c.args.«data».now)) _ _ c.args.out.now refl (rw (eq-eqb _ _ c.in_ok-key.ensures.0, ne_eqb _ _ c.if-n-ne0.true))
 
-pub returns-then-n-gt253 : goal.returns-then-n-gt253
+pub returns-then-n-gt-SEALED_MAX : goal.returns-then-n-gt-SEALED_MAX
 unfolding auth2_opening auth2_open_rows first_of choose isnt
-returns-then-n-gt253 c =
-    row_meets (auth2_open_rows (length c.args.key.now) (length c.args.«data».now)) _ _ c.args.out.now refl (rw (eq-eqb _ _ c.in_ok-key.ensures.0, eq-eqb _ _ c.if-n-ne0.false, lt-ltb _ _ c.if-n-gt253.true))
+returns-then-n-gt-SEALED_MAX c =
+    row_meets (auth2_open_rows (length c.args.key.now) (length c.args.«data».now)) _ _ c.args.out.now refl (rw (eq-eqb _ _ c.in_ok-key.ensures.0, eq-eqb _ _ c.if-n-ne0.false, lt-ltb _ _ c.if-n-gt-SEALED_MAX.true))
 
 pub returns : goal.returns
 unfolding auth2_opening
@@ -35,4 +35,4 @@ returns c =
     let k = c.in_ok-key.ensures in
     let p : take (length d) c.decrypt_over.new.work ≡ des_plain a.key.now d =
     front (des_plain c.in_ok-key.key d) (replicate 256 0) c.decrypt_over.new.work (length d) c.decrypt_over.ensures.0 c.decrypt_over.ensures.1 ∙ ap (λ (k : List ℕ). des_plain k d) k.1 in
-    passed_meets _ _ _ a.out.now _ (auth2_open_none (length a.key.now) (length d) k.0 c.if-n-ne0.false c.if-n-gt253.false) (rw p at c.accept_authentication2.ensures)
+    passed_meets _ _ _ a.out.now _ (auth2_open_none (length a.key.now) (length d) k.0 c.if-n-ne0.false c.if-n-gt-SEALED_MAX.false) (rw p at c.accept_authentication2.ensures)

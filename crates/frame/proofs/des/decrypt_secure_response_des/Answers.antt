@@ -38,12 +38,12 @@ returns-then-n-lt16 c =
     rw (open_steps a.key.now a.id.now a.«data».now a.code (length a.out.now))
     (row_meets (open_rows (length a.id.now) (length a.key.now) (length a.«data».now)) _ _ a.out.now refl (rw (eq-eqb _ _ c.in_ok-id.ensures.0, eq-eqb _ _ c.in_ok-key.ensures.0, eq-eqb _ _ c.if-n-ne0.false, lt-ltb _ _ c.if-n-lt16.true)))
 
-pub returns-then-n-gt253 : goal.returns-then-n-gt253
+pub returns-then-n-gt-SEALED_MAX : goal.returns-then-n-gt-SEALED_MAX
 unfolding open_rows first_of choose isnt either
-returns-then-n-gt253 c =
+returns-then-n-gt-SEALED_MAX c =
     let a = c.args in
     rw (open_steps a.key.now a.id.now a.«data».now a.code (length a.out.now))
-    (row_meets (open_rows (length a.id.now) (length a.key.now) (length a.«data».now)) _ _ a.out.now refl (rw (eq-eqb _ _ c.in_ok-id.ensures.0, eq-eqb _ _ c.in_ok-key.ensures.0, eq-eqb _ _ c.if-n-ne0.false, le-ltb _ _ c.if-n-lt16.false, lt-ltb _ _ c.if-n-gt253.true)))
+    (row_meets (open_rows (length a.id.now) (length a.key.now) (length a.«data».now)) _ _ a.out.now refl (rw (eq-eqb _ _ c.in_ok-id.ensures.0, eq-eqb _ _ c.in_ok-key.ensures.0, eq-eqb _ _ c.if-n-ne0.false, le-ltb _ _ c.if-n-lt16.false, lt-ltb _ _ c.if-n-gt-SEALED_MAX.true)))
 
 pub returns : goal.returns
 returns c =
@@ -54,5 +54,5 @@ returns c =
     let p : take (length d) c.decrypt_over.new.work ≡ des_plain a.key.now d =
     front (des_plain c.in_ok-key.key d) (replicate 256 0) c.decrypt_over.new.work (length d) c.decrypt_over.ensures.0 c.decrypt_over.ensures.1 ∙ ap (λ (k : List ℕ). des_plain k d) k.1 in
     rw (open_steps a.key.now a.id.now d a.code (length a.out.now))
-    (passed_meets _ _ _ a.out.now _ (open_none (length a.id.now) (length a.key.now) (length d) i.0 k.0 c.if-n-ne0.false c.if-n-lt16.false c.if-n-gt253.false)
+    (passed_meets _ _ _ a.out.now _ (open_none (length a.id.now) (length a.key.now) (length d) i.0 k.0 c.if-n-ne0.false c.if-n-lt16.false c.if-n-gt-SEALED_MAX.false)
     (rw p at (rw i.1 at c.accept_des.ensures)))

@@ -24,9 +24,9 @@ returns-in_err-key c =
     let a = c.args in
     rw (auth2_seal_steps a.key.now a.payload.now (length a.out.now)) (row_meets _ _ c.in_err-key.field-0.0 a.out.now (search rules) (one_17 _ 8 _ _ c.in_err-key.ensures))
 
-pub returns-then-n-gt240 : goal.returns-then-n-gt240
+pub returns-then-n-gt-AUTHENTICATION2_MAX : goal.returns-then-n-gt-AUTHENTICATION2_MAX
 unfolding auth2_seal_rows first_of choose isnt
-returns-then-n-gt240 c =
+returns-then-n-gt-AUTHENTICATION2_MAX c =
     let a = c.args in
     let n = length a.payload.now in
     let h : 240 < n + pad_count n = omega arith in
@@ -42,13 +42,13 @@ fits payload first n w l m h end e =
     omega arith
 
 pub seal_front-end-requires : goal.seal_front-end-requires
-seal_front-end-requires c = rw (length_front (replicate 256 0) c.copy_from_slice.new.self _ c.copy_from_slice.auto.self) (omega (arith, short_padded _ c.if-n-gt240.false))
+seal_front-end-requires c = rw (length_front (replicate 256 0) c.copy_from_slice.new.self _ c.copy_from_slice.auto.self) (omega (arith, short_padded _ c.if-n-gt-AUTHENTICATION2_MAX.false))
 
 pub slice_bounds-deliver-end : goal.slice_bounds-deliver-end
-slice_bounds-deliver-end c = sym (length-take-le _ _ (fits c.args.payload.now c.copy_from_slice.new.self _ c.seal_front-end.new.out c.copy_from_slice.auto.self c.seal_front-end.auto.out (short_padded _ c.if-n-gt240.false) _ c.seal_front-end.ensures.0))
+slice_bounds-deliver-end c = sym (length-take-le _ _ (fits c.args.payload.now c.copy_from_slice.new.self _ c.seal_front-end.new.out c.copy_from_slice.auto.self c.seal_front-end.auto.out (short_padded _ c.if-n-gt-AUTHENTICATION2_MAX.false) _ c.seal_front-end.ensures.0))
 
 pub slice_bounds-work-end-2 : goal.slice_bounds-work-end-2
-slice_bounds-work-end-2 c = fits c.args.payload.now c.copy_from_slice.new.self _ c.seal_front-end.new.out c.copy_from_slice.auto.self c.seal_front-end.auto.out (short_padded _ c.if-n-gt240.false) _ c.seal_front-end.ensures.0
+slice_bounds-work-end-2 c = fits c.args.payload.now c.copy_from_slice.new.self _ c.seal_front-end.new.out c.copy_from_slice.auto.self c.seal_front-end.auto.out (short_padded _ c.if-n-gt-AUTHENTICATION2_MAX.false) _ c.seal_front-end.ensures.0
 
 pub returns : goal.returns
 unfolding auth2_sealed auth2_size auth2_seal_rows numbered both first_of choose isnt
@@ -57,7 +57,7 @@ returns c =
     let p = a.payload.now in
     let o = a.out.now in
     let k = c.in_ok-key.ensures in
-    let l = short_padded _ c.if-n-gt240.false in
+    let l = short_padded _ c.if-n-gt-AUTHENTICATION2_MAX.false in
     let q = sealed_over auth2_code (length p) _ c.in_ok-key.key p (replicate 256 0) _ _ refl (placed_over p (replicate 256 0) _ (length p) refl c.copy_from_slice.ensures.after) c.seal_front-end.ensures in
     let b : des_seal c.in_ok-key.key auth2_code (pad p) ≡ des_seal a.key.now auth2_code (pad p) = ap (λ (k : List ℕ). des_seal k auth2_code (pad p)) k.1 in
     rw (auth2_seal_steps a.key.now p (length o))

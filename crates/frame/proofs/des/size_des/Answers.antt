@@ -5,4 +5,4 @@ use Rattle.frame.proofs.des.size_des.Goals as goal
 
 pub returns : goal.returns
 unfolding des_size pad_count
-returns c = (c.if-n-gt232.false, omega (arith, c.next_multiple_of.ensures.value))
+returns c = (c.if-n-gt-PAYLOAD_MAX.false, omega (arith, c.next_multiple_of.ensures.value))

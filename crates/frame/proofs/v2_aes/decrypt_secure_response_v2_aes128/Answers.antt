@@ -1,12 +1,8 @@
-use mathlib.Core.Path.{refl}
 use borrow.Author.Rules.{rules}
-use borrow.Author.Tests.{eq-eqb, lt-ltb, le-ltb}
 use lib.ListN.{length}
-use Rattle.answer.specs.Outcome.{choose, first_of}
-use Rattle.answer.specs.Tests.{isnt, either}
 use Rattle.answer.proofs.Rows.{first_17, second_17, row_meets}
 use Rattle.frame.specs.AesFrame.{aes_open_rows}
-use Rattle.frame.proofs.AesOpens.{aes_open_steps, aes_open_tries}
+use Rattle.frame.proofs.AesOpens.{aes_open_steps, aes_open_split, aes_open_tries}
 use Rattle.frame.proofs.v2_aes.decrypt_secure_response_v2_aes128.Goals as goal
 
 pub returns-in_err-id : goal.returns-in_err-id
@@ -21,24 +17,17 @@ returns-in_err-credentials c =
     let a = c.args in
     rw (aes_open_steps a.credentials.now a.id.now a.«data».now a.code (length a.out.now)) (row_meets _ _ c.in_err-credentials.field-0.0 a.out.now (search rules) (second_17 _ _ 6 36 _ _ c.in_err-credentials.ensures))
 
-pub returns-then-data-lt10 : goal.returns-then-data-lt10
-unfolding aes_open_rows first_of choose isnt either
-returns-then-data-lt10 c =
+pub returns-in_err-number : goal.returns-in_err-number
+returns-in_err-number c =
     let a = c.args in
     rw (aes_open_steps a.credentials.now a.id.now a.«data».now a.code (length a.out.now))
-    (row_meets (aes_open_rows (length a.id.now) (length a.credentials.now) (length a.«data».now)) _ _ a.out.now refl (rw (eq-eqb _ _ c.in_ok-id.ensures.0, eq-eqb _ _ c.in_ok-credentials.ensures.0, lt-ltb _ _ c.if-data-lt10.true)))
-
-pub returns-then-data-gt253 : goal.returns-then-data-gt253
-unfolding aes_open_rows first_of choose isnt either
-returns-then-data-gt253 c =
-    let a = c.args in
-    rw (aes_open_steps a.credentials.now a.id.now a.«data».now a.code (length a.out.now))
-    (row_meets (aes_open_rows (length a.id.now) (length a.credentials.now) (length a.«data».now)) _ _ a.out.now refl (rw (eq-eqb _ _ c.in_ok-id.ensures.0, eq-eqb _ _ c.in_ok-credentials.ensures.0, le-ltb _ _ c.if-data-lt10.false, lt-ltb _ _ c.if-data-gt253.true)))
+    (row_meets _ _ c.in_err-number.field-0.0 a.out.now (search rules) (aes_open_split a.credentials.now a.id.now a.«data».now a.code (length a.out.now) _ c.in_ok-id.ensures.0 c.in_ok-credentials.ensures.0 c.in_err-number.ensures))
 
 pub returns : goal.returns
 returns c =
     let a = c.args in
     let i = c.in_ok-id.ensures in
     let k = c.in_ok-credentials.ensures in
-    rw (aes_open_tries a.credentials.now a.id.now a.«data».now a.code (length a.out.now) i.0 k.0 c.if-data-lt10.false c.if-data-gt253.false)
-    (rw k.1 at (rw i.1 at c.decrypt_in_work_block.ensures))
+    let s = c.in_ok-number.ensures in
+    rw (aes_open_tries a.credentials.now a.id.now a.«data».now a.code (length a.out.now) i.0 k.0 s.0 s.1)
+    (rw (← s.2) at (rw k.1 at (rw i.1 at c.decrypt_in_work_block.ensures)))

@@ -4,4 +4,4 @@ use Rattle.frame.proofs.v2_aes.size_aes.Goals as goal
 
 pub returns : goal.returns
 unfolding aes_size
-returns c = (c.if-n-gt243.false, refl)
+returns c = (c.if-n-gt-PAYLOAD_MAX.false, refl)
