@@ -1,16 +1,24 @@
 -- AcceptedDerivation: what an accepted derivation gives; two accepted derivations of the same inputs are equal
 -- Challenges: challenge calls, step by step
 -- DerivationSteps: when an answer is that of a derivation's definition, step by step
+-- Encoding: the session as bytes: nothing is lost, and which bytes a call changes
 -- Exchanges: what two ends make of each other's challenges
 -- Gathering: the keys of nodes, gathered one behind the other
+-- Histories: the true count, and the number, over a session's whole history
 -- KeySearch: the search for a key, an unknown algorithm, a key that stands twice
 -- NodeLists: the nodes of a list, and those that bear a key
+-- Nodes: the search for a node in a session's list
 -- SeenKeys: what a derivation sees of the key entries, and its number past the rows 17, 1 and 2
+-- SessionSteps: the session's steps: which row decides, and what is left of the session
 pub mod AcceptedDerivation
+pub mod Challenges
 pub mod DerivationSteps
+pub mod Encoding
 pub mod Exchanges
 pub mod Gathering
+pub mod Histories
 pub mod KeySearch
 pub mod NodeLists
+pub mod Nodes
 pub mod SeenKeys
-pub mod Challenges
+pub mod SessionSteps
