@@ -5,7 +5,7 @@ use mathlib.Core.List.{List, [], ◌∷◌, ◌++◌}
 use Prim.Native.Nat.{ℕ, ◌+◌, ◌-◌, ◌%◌, ◌≤◌, ◌<◌}
 use native.Mathlib.Omega.{arith}
 use borrow.Author.Tests.{le-ltb}
-use lib.Dec.{eqb, ltb}
+use lib.Dec.{ltb}
 use lib.ListN.{length, take, drop, length-drop}
 use lib.Seq.{take_all}
 use Rattle.cipher.specs.Fips46.{des_decrypt}
@@ -15,9 +15,8 @@ use Rattle.answer.specs.Outcome.{Row, row, accepted, decide, choose, refused}
 use Rattle.answer.specs.Delivery.{delivering}
 use Rattle.frame.specs.DesFrame.{mac_start, recovered, mac_holds, des_plain, payload_of, des_opening, open_rows, plain_rows}
 use Rattle.frame.specs.inner.DesSteps.{des_accepting}
-use Rattle.answer.specs.Outcome.{first_of}
 use Rattle.frame.specs.inner.Response.{checked_delivering, parsed_delivering}
-use Rattle.answer.specs.Tests.{isnt, both, same}
+use Rattle.answer.specs.Tests.{isnt, same}
 use Rattle.answer.proofs.Rows.{AllFalse, both_right, right_length}
 use Rattle.answer.proofs.Pieces.{no_longer}
 use Rattle.answer.proofs.Equality.{same_is}

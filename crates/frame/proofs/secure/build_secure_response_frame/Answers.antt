@@ -1,10 +1,7 @@
 use mathlib.Core.Path.{ap, sym, ◌∙◌}
 use borrow.Author.Rules.{rules}
 use lib.ListN.{length}
-use Rattle.answer.specs.Refusal.{refusal_number}
 use Rattle.answer.specs.Scheme.{mark_of}
-use Rattle.answer.specs.Outcome.{refused}
-use Rattle.answer.proofs.Rows.{err_meets}
 use Rattle.frame.proofs.Schemes.{responding_des, responding_aes, responding_17}
 use Rattle.frame.proofs.secure.build_secure_response_frame.Goals as goal
 
