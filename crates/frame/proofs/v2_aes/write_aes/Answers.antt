@@ -10,13 +10,6 @@ use Rattle.frame.proofs.AesSeals.{with_part, sealed_written, cipher_key_is, mac_
 use Rattle.answer.proofs.Pieces.{reaches}
 use Rattle.frame.proofs.v2_aes.write_aes.Goals as goal
 
-pub slice_bounds-copy_from_slice-end-4 : goal.slice_bounds-copy_from_slice-end-4
-slice_bounds-copy_from_slice-end-4 c =
-    let n = length c.args.payload.now in
-    let s = c.copy_from_slice.new.self ++ drop 2 c.args.out.now in
-    reaches (with_part s 2 (n + 2 - 2) c.copy.new.dst) c.apply_aes128_ofb_parts.new.first 2 (n + 2 - 2) (n + 10) c.apply_aes128_ofb_parts.auto.first
-    (reaches s c.copy.new.dst 2 (n + 2 - 2) (n + 10) c.copy.auto.dst (rw (length_front c.args.out.now c.copy_from_slice.new.self 2 c.copy_from_slice.auto.self) c.requires.payload_in_bounds))
-
 pub returns : goal.returns
 unfolding aes_size
 returns c =
