@@ -11,13 +11,16 @@ use lib.Seq.{take_all}
 use Rattle.cipher.specs.Fips46.{des_decrypt}
 use Rattle.cipher.specs.Fold.{back_from, under_each_back}
 use Rattle.answer.specs.Number.{number_of}
-use Rattle.answer.specs.Outcome.{Row, row, accepted, decide, choose, refused}
+use Rattle.std.specs.Prelude.{Err}
+use Rattle.answer.specs.declared.refusal.Refusal.{Refusal}
+use Rattle.answer.specs.Refusal.{refusal_number}
+use Rattle.answer.specs.Outcome.{Answer, Meets, Row, row, accepted, decide, choose, refused, first_of}
 use Rattle.answer.specs.Delivery.{delivering}
 use Rattle.frame.specs.DesFrame.{mac_start, recovered, mac_holds, des_plain, payload_of, des_opening, open_rows, plain_rows}
 use Rattle.frame.specs.inner.DesSteps.{des_accepting}
 use Rattle.frame.specs.inner.Response.{checked_delivering, parsed_delivering}
 use Rattle.answer.specs.Tests.{isnt, same}
-use Rattle.answer.proofs.Rows.{AllFalse, both_right, right_length}
+use Rattle.answer.proofs.Rows.{AllFalse, both_right, right_length, row_meets}
 use Rattle.answer.proofs.Pieces.{no_longer}
 use Rattle.answer.proofs.Equality.{same_is}
 
@@ -89,6 +92,11 @@ open_none id key sealed i k w m s = (both_right id key 6 8 i k, (right_length (s
 pub open_steps : (key id sealed : List ℕ) (code room : ℕ) → des_opening key code id sealed room ≡ decide (open_rows (length id) (length key) (length sealed)) (des_accepting code id (des_plain key sealed) room)
 unfolding des_opening open_rows des_accepting plain_rows delivering decide
 open_steps key id sealed code room = refl
+
+-- one of them holds
+pub open_refused : (key id sealed : List ℕ) (code room : ℕ) (e : Refusal) (out : List ℕ) {r : Answer} → r ≡ Err e → first_of (open_rows (length id) (length key) (length sealed)) ≡ refusal_number e
+    → Meets (des_opening key code id sealed room) r out out
+open_refused key id sealed code room e out {r} q h = rw (open_steps key id sealed code room) (row_meets (open_rows (length id) (length key) (length sealed)) (des_accepting code id (des_plain key sealed) room) e out q h)
 
 -- all rows in one list
 module _ (key id sealed : List ℕ) (code room : ℕ) where
