@@ -196,15 +196,34 @@ pub accepted_delivers : (n : ℕ) (b : List ℕ) (r : Answer) (before after : Li
 unfolding accepted
 accepted_delivers n b r before after h l t w = record { number = h; length_is = l; transaction = t; output = w }
 
+-- a refusal has no other value
+pub err_delivers : (e : Refusal) (out : List ℕ) {r : Answer} → r ≡ Err e → Delivers (refused (refusal_number e)) r out out
+err_delivers e out {r} h = rw h (refused_delivers (refusal_number e) (Err e) out (refl, refl, refl))
+
 delivers_short : (o : Outcome) (r : Answer) (before after : List ℕ) → length o.bytes ≤ 65535 → Delivers o r before after → Meets o r before after
 delivers_short o r before after h d = record { number = d.number; length_is = d.length_is ∙ omega arith; transaction = d.transaction; output = d.output }
 
-delivering_no_longer : (t : Bool) (n : ℕ) (p : List ℕ) → length (choose t (refused 16) (accepted n p)).bytes ≤ length p
-unfolding choose refused accepted
-delivering_no_longer true n p = omega arith
-delivering_no_longer false n p = omega arith
+choose_no_longer : (t : Bool) (k : ℕ) (o : Outcome) (n : ℕ) → length o.bytes ≤ n → length (choose t (refused k) o).bytes ≤ n
+unfolding choose refused
+choose_no_longer true k o n h = omega arith
+choose_no_longer false k o n h = h
+
+-- what goes out behind rows is no longer than without them
+decide_no_longer : (rs : List Row) (o : Outcome) (n : ℕ) → length o.bytes ≤ n → length (decide rs o).bytes ≤ n
+unfolding decide
+decide_no_longer [] o n h = h
+decide_no_longer (r ∷ rs) o n h = choose_no_longer r.holds r.number (decide rs o) n (decide_no_longer rs o n h)
+
+delivering_no_longer : (n : ℕ) (p : List ℕ) (room most : ℕ) → length p ≤ most → length (delivering n p room).bytes ≤ most
+unfolding delivering accepted
+delivering_no_longer n p room most h = decide_no_longer _ (accepted n p) most h
 
 -- a payload of up to 65,535 bytes is delivered with its length
 pub delivers_meets : (n : ℕ) (p : List ℕ) (room : ℕ) {r : Answer} {before after : List ℕ} → Delivers (delivering n p room) r before after → length p ≤ 65535 → Meets (delivering n p room) r before after
-unfolding delivering decide
-delivers_meets n p room {r} {before} {after} d h = delivers_short _ r before after (omega (arith, delivering_no_longer (ltb room (length p)) n p)) d
+delivers_meets n p room {r} {before} {after} d h = delivers_short (delivering n p room) r before after (delivering_no_longer n p room 65535 h) d
+
+-- also behind rows
+pub decided_meets : (rs : List Row) (n : ℕ) (p : List ℕ) (room : ℕ) {r : Answer} {before after : List ℕ} → Delivers (decide rs (delivering n p room)) r before after → length p ≤ 65535
+    → Meets (decide rs (delivering n p room)) r before after
+decided_meets rs n p room {r} {before} {after} d h =
+    delivers_short (decide rs (delivering n p room)) r before after (decide_no_longer rs (delivering n p room) 65535 (delivering_no_longer n p room 65535 h)) d

@@ -20,11 +20,11 @@ use Rattle.answer.specs.declared.refusal.Refusal.TheVariants.{TooShort, TooLong}
 use Rattle.answer.specs.Refusal.{refusal_number}
 use Rattle.std.specs.Prelude.{Err}
 use Rattle.answer.specs.Outcome.{Answer, Meets, Row, refused, accepted, row, choose, decide, first_of}
-use Rattle.answer.specs.Delivery.{delivering}
+use Rattle.answer.specs.Delivery.{delivering, Delivers}
 use Rattle.frame.specs.AesFrame.{cipher_key, mac_key, challenge_3c, aes_iv, aes_mac, mac_input, opened_iv, opened_payload, opened_mac, aes_opening, aes_open_rows}
 use Rattle.frame.specs.inner.AesSteps.{aes_accepting, aes_trying}
 use Rattle.answer.specs.Tests.{isnt, either, same}
-use Rattle.answer.proofs.Rows.{both_right, decide_false, row_meets}
+use Rattle.answer.proofs.Rows.{both_right, decide_false, row_meets, decided_meets}
 use Rattle.answer.proofs.Outputs.{copied_over, front}
 use Rattle.answer.proofs.Equality.{same_is}
 
@@ -44,6 +44,12 @@ module _ (number : ℕ) (mac wanted payload : List ℕ) (room : ℕ) (r : Bool) 
 
 add-two : (n : ℕ) → n + 2 ≡ suc (suc n)
 add-two n = omega arith
+
+-- a payload of up to 65,535 bytes goes out with its length
+pub aes_accepting_meets : (number : ℕ) (mac wanted payload : List ℕ) (room : ℕ) {r : Answer} {before after : List ℕ} → Delivers (aes_accepting number mac wanted payload room) r before after → length payload ≤ 65535
+    → Meets (aes_accepting number mac wanted payload room) r before after
+unfolding aes_accepting
+aes_accepting_meets number mac wanted payload room {r} {before} {after} d h = decided_meets _ number payload room d h
 
 -- ---- the parts of sealed data
 

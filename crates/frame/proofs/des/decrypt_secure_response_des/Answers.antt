@@ -1,4 +1,4 @@
-use mathlib.Core.Path.{◌≡◌, refl, ap, ◌∙◌}
+use mathlib.Core.Path.{◌≡◌, refl, sym, ap, ◌∙◌}
 use Prim.Native.Nat.{ℕ}
 use borrow.Author.Rules.{rules}
 use borrow.Author.Tests.{eq-eqb, ne_eqb, lt-ltb, le-ltb}
@@ -9,7 +9,9 @@ use Rattle.answer.specs.Tests.{isnt, either}
 use Rattle.frame.specs.DesFrame.{des_plain, open_rows}
 use Rattle.answer.proofs.Rows.{first_17, second_17, passed_meets}
 use Rattle.answer.proofs.Outputs.{front}
-use Rattle.frame.proofs.DesOpens.{open_none, open_steps, open_refused}
+use Rattle.answer.proofs.Pieces.{no_longer}
+use native.Mathlib.Omega.{arith}
+use Rattle.frame.proofs.DesOpens.{open_none, open_steps, open_refused, accepting_meets}
 use Rattle.frame.proofs.des.decrypt_secure_response_des.Goals as goal
 
 pub returns-in_err-id : goal.returns-in_err-id
@@ -52,4 +54,4 @@ returns c =
     front (des_plain c.in_ok-key.key d) (replicate 256 0) c.decrypt_over.new.work (length d) c.decrypt_over.ensures.0 c.decrypt_over.ensures.1 ∙ ap (λ (k : List ℕ). des_plain k d) k.1 in
     rw (open_steps a.key.now a.id.now d a.code (length a.out.now))
     (passed_meets _ _ _ a.out.now _ (open_none (length a.id.now) (length a.key.now) (length d) i.0 k.0 c.if-n-ne0.false c.if-n-lt16.false c.if-n-gt-SEALED_MAX.false)
-    (rw p at (rw i.1 at c.accept_des.ensures)))
+    (accepting_meets a.code a.id.now (des_plain a.key.now d) (length a.out.now) (rw p at (rw i.1 at c.accept_des.ensures)) (no_longer (length d) 65535 c.decrypt_over.new.work _ (sym p) (omega arith))))
