@@ -6,8 +6,7 @@ use native.Mathlib.Omega.{arith}
 use lib.ListN.{length, replicate, length-replicate, drop_of_length-le}
 use lib.Seq.{take_all}
 use Rattle.answer.specs.Fixed.{fit}
-use Rattle.std.specs.Int.{w16, to_le_bytes}
-use Rattle.answer.specs.Number.{number_bytes, number_of}
+use Rattle.answer.specs.Number.{number_of}
 
 -- a string of n bytes is its own
 pub fit_exact : (n : ℕ) (s : List ℕ) → length s ≡ n → fit n s ≡ s
@@ -27,7 +26,3 @@ pub number_fit : (s : List ℕ) → number_of (fit 2 s) ≡ number_of s
 number_fit [] = refl
 number_fit (x ∷ []) = refl
 number_fit (x ∷ y ∷ s) = refl
-
--- a number's two bytes
-pub number_le_bytes : (number : ℕ) → to_le_bytes w16 number ≡ number_bytes number
-number_le_bytes number = refl

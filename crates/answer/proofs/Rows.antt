@@ -82,15 +82,10 @@ first_passes (r ∷ rs) k n e z =
 
 -- ---- row 17
 
--- the first row, where it holds and where it does not
-module _ (k : ℕ) (t : Bool) (rs : List Row) where
-  pub first_holds : t ≡ true → first_of (row k t ∷ rs) ≡ k
-  unfolding first_of choose
-  first_holds h = rw h
-
-  pub first_not : t ≡ false → first_of (row k t ∷ rs) ≡ first_of rs
-  unfolding first_of choose
-  first_not h = rw h
+-- the first row, where it holds
+pub first_holds : (k : ℕ) (t : Bool) (rs : List Row) → t ≡ true → first_of (row k t ∷ rs) ≡ k
+unfolding first_of choose
+first_holds k t rs h = rw h
 
 -- one length that has to be n
 module _ (i n : ℕ) where
@@ -128,16 +123,10 @@ module _ (i j m n : ℕ) where
     pub second_17 : (e : Refusal) → (j ≢ n) × (e ≡ BadMarkOrLength) → first_of (row 17 (either (isnt (eqb i m)) (isnt (eqb j n))) ∷ rs) ≡ refusal_number e
     second_17 e h = first_holds 17 _ rs (second_wrong h.0) ∙ ap refusal_number (sym h.1)
 
-    pub past_17 : i ≡ m → j ≡ n → first_of (row 17 (either (isnt (eqb i m)) (isnt (eqb j n))) ∷ rs) ≡ first_of rs
-    past_17 h k = first_not 17 _ rs (both_right h k)
-
 -- the same of one length
 module _ (i n : ℕ) (rs : List Row) where
   pub one_17 : (e : Refusal) → (i ≢ n) × (e ≡ BadMarkOrLength) → first_of (row 17 (isnt (eqb i n)) ∷ rs) ≡ refusal_number e
   one_17 e h = first_holds 17 _ rs (wrong_length i n h.0) ∙ ap refusal_number (sym h.1)
-
-  pub past_one_17 : i ≡ n → first_of (row 17 (isnt (eqb i n)) ∷ rs) ≡ first_of rs
-  past_one_17 h = first_not 17 _ rs (right_length i n h)
 
 -- ---- answers
 
@@ -181,18 +170,9 @@ err_meets e out {r} h = rw h (refused_meets (refusal_number e) (Err e) out (refl
 pub meets_refused : (o : Outcome) (k : ℕ) (r : Answer) (out : List ℕ) → o ≡ refused k → Refused k r → Meets o r out out
 meets_refused o k r out e h = rw e (refused_meets k r out h)
 
-pub meets_accepted : (o : Outcome) (n : ℕ) (b : List ℕ) (r : Answer) (before after : List ℕ) → o ≡ accepted n b → answer_number r ≡ 0 → answer_length r ≡ length b → answer_transaction r ≡ n → after ≡ over b before
-    → Meets o r before after
-meets_accepted o n b r before after e h l t w = rw e (accepted_meets n b r before after h l t w)
-
-module _ (rs : List Row) (o : Outcome) (r : Answer) where
-  -- the guard's number, refused
-  pub guard_meets : (k : ℕ) (out : List ℕ) → k ≡ first_of rs → (k ≡ 0 → ⊥) → Refused k r → Meets (decide rs o) r out out
-  guard_meets k out e h f = rw (first_refuses rs o k e h) (refused_meets k r out f)
-
-  -- no row holds
-  pub passed_meets : (before after : List ℕ) → AllFalse rs → Meets o r before after → Meets (decide rs o) r before after
-  passed_meets before after h m = rw (decide_false rs o h) m
+-- no row holds
+pub passed_meets : (rs : List Row) (o : Outcome) (r : Answer) (before after : List ℕ) → AllFalse rs → Meets o r before after → Meets (decide rs o) r before after
+passed_meets rs o r before after h m = rw (decide_false rs o h) m
 
 -- the refusal of the first row that holds
 pub row_meets : (rs : List Row) (o : Outcome) (e : Refusal) (out : List ℕ) {r : Answer} → r ≡ Err e → first_of rs ≡ refusal_number e → Meets (decide rs o) r out out
@@ -216,15 +196,34 @@ pub accepted_delivers : (n : ℕ) (b : List ℕ) (r : Answer) (before after : Li
 unfolding accepted
 accepted_delivers n b r before after h l t w = record { number = h; length_is = l; transaction = t; output = w }
 
+-- a refusal has no other value
+pub err_delivers : (e : Refusal) (out : List ℕ) {r : Answer} → r ≡ Err e → Delivers (refused (refusal_number e)) r out out
+err_delivers e out {r} h = rw h (refused_delivers (refusal_number e) (Err e) out (refl, refl, refl))
+
 delivers_short : (o : Outcome) (r : Answer) (before after : List ℕ) → length o.bytes ≤ 65535 → Delivers o r before after → Meets o r before after
 delivers_short o r before after h d = record { number = d.number; length_is = d.length_is ∙ omega arith; transaction = d.transaction; output = d.output }
 
-delivering_no_longer : (t : Bool) (n : ℕ) (p : List ℕ) → length (choose t (refused 16) (accepted n p)).bytes ≤ length p
-unfolding choose refused accepted
-delivering_no_longer true n p = omega arith
-delivering_no_longer false n p = omega arith
+choose_no_longer : (t : Bool) (k : ℕ) (o : Outcome) (n : ℕ) → length o.bytes ≤ n → length (choose t (refused k) o).bytes ≤ n
+unfolding choose refused
+choose_no_longer true k o n h = omega arith
+choose_no_longer false k o n h = h
+
+-- what goes out behind rows is no longer than without them
+decide_no_longer : (rs : List Row) (o : Outcome) (n : ℕ) → length o.bytes ≤ n → length (decide rs o).bytes ≤ n
+unfolding decide
+decide_no_longer [] o n h = h
+decide_no_longer (r ∷ rs) o n h = choose_no_longer r.holds r.number (decide rs o) n (decide_no_longer rs o n h)
+
+delivering_no_longer : (n : ℕ) (p : List ℕ) (room most : ℕ) → length p ≤ most → length (delivering n p room).bytes ≤ most
+unfolding delivering accepted
+delivering_no_longer n p room most h = decide_no_longer _ (accepted n p) most h
 
 -- a payload of up to 65,535 bytes is delivered with its length
 pub delivers_meets : (n : ℕ) (p : List ℕ) (room : ℕ) {r : Answer} {before after : List ℕ} → Delivers (delivering n p room) r before after → length p ≤ 65535 → Meets (delivering n p room) r before after
-unfolding delivering decide
-delivers_meets n p room {r} {before} {after} d h = delivers_short _ r before after (omega (arith, delivering_no_longer (ltb room (length p)) n p)) d
+delivers_meets n p room {r} {before} {after} d h = delivers_short (delivering n p room) r before after (delivering_no_longer n p room 65535 h) d
+
+-- also behind rows
+pub decided_meets : (rs : List Row) (n : ℕ) (p : List ℕ) (room : ℕ) {r : Answer} {before after : List ℕ} → Delivers (decide rs (delivering n p room)) r before after → length p ≤ 65535
+    → Meets (decide rs (delivering n p room)) r before after
+decided_meets rs n p room {r} {before} {after} d h =
+    delivers_short (decide rs (delivering n p room)) r before after (decide_no_longer rs (delivering n p room) 65535 (delivering_no_longer n p room 65535 h)) d

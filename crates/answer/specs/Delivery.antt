@@ -1,4 +1,4 @@
--- Document 01, Turned-down calls, row 16, which is last: a payload goes out where there is room for it. Assumes nothing.
+-- The last row, 16: a payload goes out where there is room for it. Assumes nothing.
 use Rattle.std.specs.Prelude.{ℕ, ◌%◌, ◌≡◌, List, [], ◌∷◌, ltb, length}
 use Rattle.answer.specs.Outcome.{Outcome, Answer, answer_number, answer_length, answer_transaction, accepted, row, decide, over}
 

@@ -1,4 +1,4 @@
--- Document 01, Layouts: a number in two bytes, the low one first. Assumes nothing.
+-- A number in two bytes, the low one first. Assumes nothing.
 use Rattle.std.specs.Prelude.{ℕ, ◌+◌, ◌*◌, ◌/◌, ◌%◌, List, [], ◌∷◌, get_or}
 
 abbrev pub number_bytes : ℕ → List ℕ

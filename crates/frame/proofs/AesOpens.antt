@@ -6,7 +6,7 @@ use mathlib.Core.Logic.{⊎_elim}
 use Prim.Native.Nat.{ℕ, suc, ◌+◌, ◌-◌, ◌/◌, ◌%◌, ◌≤◌, ◌<◌}
 use native.Mathlib.Omega.{arith}
 use borrow.Author.Tests.{eq-eqb, lt-ltb, le-ltb}
-use lib.Dec.{eqb, ltb}
+use lib.Dec.{ltb}
 use lib.ListN.{length, take, drop, take-append-drop, length-append}
 use lib.Seq.{take_at, drop_at}
 use Rattle.cipher.specs.Fips197.{aes_encrypt}
@@ -18,12 +18,13 @@ use Rattle.std.specs.Int.{w16, from_le_bytes}
 use Rattle.answer.specs.declared.refusal.Refusal.{Refusal}
 use Rattle.answer.specs.declared.refusal.Refusal.TheVariants.{TooShort, TooLong}
 use Rattle.answer.specs.Refusal.{refusal_number}
-use Rattle.answer.specs.Outcome.{Row, refused, accepted, row, choose, decide, first_of}
-use Rattle.answer.specs.Delivery.{delivering}
+use Rattle.std.specs.Prelude.{Err}
+use Rattle.answer.specs.Outcome.{Answer, Meets, Row, refused, accepted, row, choose, decide, first_of}
+use Rattle.answer.specs.Delivery.{delivering, Delivers}
 use Rattle.frame.specs.AesFrame.{cipher_key, mac_key, challenge_3c, aes_iv, aes_mac, mac_input, opened_iv, opened_payload, opened_mac, aes_opening, aes_open_rows}
 use Rattle.frame.specs.inner.AesSteps.{aes_accepting, aes_trying}
 use Rattle.answer.specs.Tests.{isnt, either, same}
-use Rattle.answer.proofs.Rows.{both_right, decide_false}
+use Rattle.answer.proofs.Rows.{both_right, decide_false, row_meets, decided_meets}
 use Rattle.answer.proofs.Outputs.{copied_over, front}
 use Rattle.answer.proofs.Equality.{same_is}
 
@@ -43,6 +44,12 @@ module _ (number : ℕ) (mac wanted payload : List ℕ) (room : ℕ) (r : Bool) 
 
 add-two : (n : ℕ) → n + 2 ≡ suc (suc n)
 add-two n = omega arith
+
+-- a payload of up to 65,535 bytes goes out with its length
+pub aes_accepting_meets : (number : ℕ) (mac wanted payload : List ℕ) (room : ℕ) {r : Answer} {before after : List ℕ} → Delivers (aes_accepting number mac wanted payload room) r before after → length payload ≤ 65535
+    → Meets (aes_accepting number mac wanted payload room) r before after
+unfolding aes_accepting
+aes_accepting_meets number mac wanted payload room {r} {before} {after} d h = decided_meets _ number payload room d h
 
 -- ---- the parts of sealed data
 
@@ -101,9 +108,13 @@ module _ (code number : ℕ) (id c sealed mac z : List ℕ) (small : number < 65
 
 module _ (c id d : List ℕ) (code room : ℕ) where
   -- the rows by lengths alone, then the others
-  pub aes_open_steps : aes_opening c code id d room ≡ decide (aes_open_rows (length id) (length c) (length d)) (aes_trying c code id d room)
+  aes_open_steps : aes_opening c code id d room ≡ decide (aes_open_rows (length id) (length c) (length d)) (aes_trying c code id d room)
   unfolding aes_opening aes_open_rows aes_trying aes_accepting delivering decide
   aes_open_steps = refl
+
+  -- one of them holds
+  pub aes_open_refused : (e : Refusal) (out : List ℕ) {r : Answer} → r ≡ Err e → first_of (aes_open_rows (length id) (length c) (length d)) ≡ refusal_number e → Meets (aes_opening c code id d room) r out out
+  aes_open_refused e out {r} q h = rw aes_open_steps (row_meets (aes_open_rows (length id) (length c) (length d)) (aes_trying c code id d room) e out q h)
 
   -- what the reader of its parts answered
   pub aes_open_split : (e : Refusal) → length id ≡ 6 → length c ≡ 36 → (10 ≤ length d → (253 < length d) × (e ≡ TooLong)) × (length d < 10 → e ≡ TooShort)

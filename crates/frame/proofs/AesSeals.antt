@@ -1,9 +1,9 @@
 -- AES sealing, step by step: IV, MAC, and the sealed data over the front of an output. Assumes nothing.
 use mathlib.Core.Path.{◌≡◌, refl, sym, ap, ◌∙◌}
 use mathlib.Core.List.{List, [], ◌∷◌, ◌++◌, append_assoc}
-use Prim.Native.Nat.{ℕ, ◌+◌, ◌-◌, ◌/◌, ◌%◌, ◌≤◌, ◌<◌}
+use Prim.Native.Nat.{ℕ, ◌+◌, ◌-◌, ◌/◌, ◌%◌, ◌≤◌}
 use native.Mathlib.Omega.{arith}
-use lib.Dec.{eqb, ltb}
+use lib.Dec.{ltb}
 use lib.ListN.{length, take, drop, take-append-drop, set, replicate, get_or, length-append, length-drop, drop_of_length-le}
 use lib.Seq.{take_at, drop_at, drop-drop, take_all, length-take-le, set_split, set_at, drop-cons}
 use Rattle.cipher.specs.Fips197.{aes_encrypt}
@@ -12,7 +12,7 @@ use Rattle.cipher.specs.Sp80038b.{cmac, R128}
 use Rattle.answer.specs.Number.{number_bytes}
 use Rattle.frame.specs.declared.v2_aes.Credentials.{Credentials}
 use Rattle.frame.specs.inner.AesSteps.{bytes_of}
-use Rattle.answer.specs.Outcome.{over, accepted, row, decide, first_of}
+use Rattle.answer.specs.Outcome.{over, accepted, row, decide}
 use Rattle.frame.specs.AesFrame.{cipher_key, mac_key, challenge_3c, aes_iv, aes_mac, mac_input, aes_sealed, aes_size, aes_sealing, aes_seal_rows}
 use Rattle.answer.proofs.Outputs.{placed_over}
 use Rattle.answer.proofs.Pieces.{placed_next, copied_next, last_piece, put_again}

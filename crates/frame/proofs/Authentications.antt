@@ -8,12 +8,13 @@ use borrow.Author.Tests.{lt-ltb, le-ltb}
 use lib.Dec.{ltb}
 use lib.ListN.{length, take}
 use Rattle.frame.specs.Authentication2.{auth2_code, auth2_sealed, auth2_size, auth2_seal_rows, auth2_sealing, auth2_open_rows, auth2_accepting}
-use Rattle.answer.specs.Delivery.{delivering}
+use Rattle.answer.specs.Delivery.{delivering, Delivers}
 use Rattle.frame.specs.DesFrame.{mac_holds}
-use Rattle.answer.specs.Outcome.{refused, accepted, row, choose, decide}
+use Rattle.answer.specs.Outcome.{Answer, Meets, refused, accepted, row, choose, decide}
 use Rattle.frame.specs.Padding.{pad_count}
 use Rattle.answer.specs.Tests.{isnt, either}
-use Rattle.answer.proofs.Rows.{AllFalse, right_length}
+use Rattle.answer.proofs.Rows.{AllFalse, right_length, decided_meets}
+use Rattle.answer.proofs.Pieces.{no_longer}
 
 -- ---- sealing
 
@@ -47,3 +48,8 @@ module _ (plain : List ℕ) (room : ℕ) where
     pub right_mac : mac_holds auth2_code plain ≡ true → auth2_accepting plain room ≡ delivering 0 (take (length plain - 8) plain) room
     unfolding auth2_accepting decide choose either isnt
     right_mac m = rw (le-ltb (length plain) 16 h, m)
+
+  -- all but the MAC goes out with its length
+  pub auth2_accepting_meets : {r : Answer} {before after : List ℕ} → Delivers (auth2_accepting plain room) r before after → length plain ≤ 65535 → Meets (auth2_accepting plain room) r before after
+  unfolding auth2_accepting
+  auth2_accepting_meets {r} {before} {after} d h = decided_meets _ 0 (take (length plain - 8) plain) room d (no_longer (length plain - 8) 65535 plain (take (length plain - 8) plain) refl h)

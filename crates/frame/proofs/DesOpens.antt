@@ -5,20 +5,22 @@ use mathlib.Core.List.{List, [], ◌∷◌, ◌++◌}
 use Prim.Native.Nat.{ℕ, ◌+◌, ◌-◌, ◌%◌, ◌≤◌, ◌<◌}
 use native.Mathlib.Omega.{arith}
 use borrow.Author.Tests.{le-ltb}
-use lib.Dec.{eqb, ltb}
+use lib.Dec.{ltb}
 use lib.ListN.{length, take, drop, length-drop}
 use lib.Seq.{take_all}
 use Rattle.cipher.specs.Fips46.{des_decrypt}
 use Rattle.cipher.specs.Fold.{back_from, under_each_back}
 use Rattle.answer.specs.Number.{number_of}
-use Rattle.answer.specs.Outcome.{Row, row, accepted, decide, choose, refused}
-use Rattle.answer.specs.Delivery.{delivering}
+use Rattle.std.specs.Prelude.{Err}
+use Rattle.answer.specs.declared.refusal.Refusal.{Refusal}
+use Rattle.answer.specs.Refusal.{refusal_number}
+use Rattle.answer.specs.Outcome.{Answer, Meets, Row, row, accepted, decide, choose, refused, first_of}
+use Rattle.answer.specs.Delivery.{delivering, Delivers}
 use Rattle.frame.specs.DesFrame.{mac_start, recovered, mac_holds, des_plain, payload_of, des_opening, open_rows, plain_rows}
 use Rattle.frame.specs.inner.DesSteps.{des_accepting}
-use Rattle.answer.specs.Outcome.{first_of}
 use Rattle.frame.specs.inner.Response.{checked_delivering, parsed_delivering}
-use Rattle.answer.specs.Tests.{isnt, both, same}
-use Rattle.answer.proofs.Rows.{AllFalse, both_right, right_length}
+use Rattle.answer.specs.Tests.{isnt, same}
+use Rattle.answer.proofs.Rows.{AllFalse, both_right, right_length, row_meets, decided_meets}
 use Rattle.answer.proofs.Pieces.{no_longer}
 use Rattle.answer.proofs.Equality.{same_is}
 
@@ -54,11 +56,6 @@ stripped plain p e =
     let l : length (drop 8 plain) - 8 ≡ length plain - 16 = rw length-drop (omega arith) in
     e ∙ rw (rest_part plain 8, l)
 
--- and how long it is at most
-pub short_payload : (plain p : List ℕ) → p ≡ payload_of plain → length plain ≤ 256 → length p ≤ 256
-unfolding payload_of
-short_payload plain p e h = no_longer (length plain - 16) 256 (drop 8 plain) p e (rw length-drop (omega arith))
-
 -- the row of the MAC, before what is left of an opening
 module _ (code room : ℕ) (id plain : List ℕ) where
   pub wrong_mac : mac_holds code plain ≡ false → des_accepting code id plain room ≡ refused 13
@@ -86,10 +83,21 @@ pub open_none : (id key sealed : ℕ) → id ≡ 6 → key ≡ 8 → sealed % 8 
 unfolding open_rows
 open_none id key sealed i k w m s = (both_right id key 6 8 i k, (right_length (sealed % 8) 0 w, (le-ltb sealed 16 m, (le-ltb 253 sealed s, tt))))
 
+-- what is left of an opening goes out with its length
+pub accepting_meets : (code : ℕ) (id plain : List ℕ) (room : ℕ) {r : Answer} {before after : List ℕ} → Delivers (des_accepting code id plain room) r before after → length plain ≤ 65535 → Meets (des_accepting code id plain room) r before after
+unfolding des_accepting payload_of
+accepting_meets code id plain room {r} {before} {after} d h =
+    decided_meets (plain_rows code id plain) (number_of plain) (payload_of plain) room d (no_longer (length plain - 16) 65535 (drop 8 plain) (payload_of plain) refl (rw length-drop (omega arith)))
+
 -- the rows by lengths alone, then those of the plain text
 pub open_steps : (key id sealed : List ℕ) (code room : ℕ) → des_opening key code id sealed room ≡ decide (open_rows (length id) (length key) (length sealed)) (des_accepting code id (des_plain key sealed) room)
 unfolding des_opening open_rows des_accepting plain_rows delivering decide
 open_steps key id sealed code room = refl
+
+-- one of them holds
+pub open_refused : (key id sealed : List ℕ) (code room : ℕ) (e : Refusal) (out : List ℕ) {r : Answer} → r ≡ Err e → first_of (open_rows (length id) (length key) (length sealed)) ≡ refusal_number e
+    → Meets (des_opening key code id sealed room) r out out
+open_refused key id sealed code room e out {r} q h = rw (open_steps key id sealed code room) (row_meets (open_rows (length id) (length key) (length sealed)) (des_accepting code id (des_plain key sealed) room) e out q h)
 
 -- all rows in one list
 module _ (key id sealed : List ℕ) (code room : ℕ) where

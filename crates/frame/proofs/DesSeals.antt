@@ -1,10 +1,10 @@
 -- DES sealing, step by step: padding, MAC and encryption over the front of an output. Assumes nothing.
 use mathlib.Core.Path.{◌≡◌, refl, sym, ap, ◌∙◌}
 use mathlib.Core.List.{List, [], ◌∷◌, ◌++◌}
-use Prim.Native.Nat.{ℕ, suc, ◌+◌, ◌-◌, ◌/◌, ◌%◌, ◌≤◌, ◌<◌}
+use Prim.Native.Nat.{ℕ, suc, ◌+◌, ◌-◌, ◌%◌, ◌≤◌}
 use native.Mathlib.Omega.{arith}
-use lib.Dec.{eqb, ltb}
-use lib.ListN.{length, take, drop, set, replicate, length-append, length-set}
+use lib.Dec.{ltb}
+use lib.ListN.{length, take, drop, replicate, length-append}
 use lib.Seq.{length-take-le}
 use Rattle.cipher.specs.Fips46.{des_encrypt}
 use Rattle.cipher.specs.Sp80038a.{cbc_encrypt, on_whole}
@@ -12,7 +12,7 @@ use Rattle.cipher.proofs.Copies.{length_part}
 use Rattle.answer.specs.Outcome.{over, accepted, row, decide}
 use Rattle.frame.specs.Padding.{pad_count, pad}
 use Rattle.frame.specs.DesFrame.{des_mac, des_seal, header, des_sealed, des_size, des_sealing, seal_rows}
-use Rattle.answer.proofs.Outputs.{front, over_self, over_two, over_over, copied_behind, filled_behind}
+use Rattle.answer.proofs.Outputs.{front, over_self, over_over, filled_behind}
 use Rattle.frame.proofs.Fronts.{in_place}
 use Rattle.frame.proofs.Pads.{pad_count_small, pad_count_whole, length_pad}
 

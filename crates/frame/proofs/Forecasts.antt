@@ -19,7 +19,7 @@ use Rattle.frame.proofs.Frames.{length_sealed, sealed_before, is_framed, length_
 use Rattle.frame.proofs.Schemes.{eights_are_sealed, sealing_known, sealing_unknown, foretold_17, foretold_12, foretold_size, foretold_only}
 use Rattle.frame.proofs.Sealing.{seals, seals_12, seals_16, seals_only}
 
--- the rule of the request is that of sealing; a mark that is neither 1 nor 2 has no size, and both rules treat it alike
+-- the forecast's rule is that of sealing; a mark that is neither 1 nor 2 has no size, and both rules treat it alike
 pub forecast_is_sealed_size : (scheme n : ℕ) → forecast_size scheme n ≡ sealed_size scheme n
 unfolding forecast_size sealed_size aes_size choose
 forecast_is_sealed_size scheme n = by (eqb scheme 1) where
@@ -123,7 +123,7 @@ forecast_frame scheme c id payload code number room z =
           ∙ ap (λ (n : ℕ). n + 2) (sym f.1),
     )
 
--- ---- the table of the request: number and size for a mark and a length
+-- ---- number and size for given marks and lengths
 
 abbrev Says : ℕ → ℕ → ℕ → ℕ → Type 0
 Says scheme n number size = ((forecasting scheme n).number ≡ number) × ((forecasting scheme n).size ≡ size)

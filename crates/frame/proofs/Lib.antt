@@ -2,12 +2,12 @@
 -- AesSeals: AES sealing, step by step
 -- AesTrip: sealed AES data opens as what was sealed, and nothing else opens
 -- Authentications: Authentication 2, step by step
--- Corners: values that the definitions have at given places, for the table of document 01
+-- Corners: values that the definitions have at given places
 -- DesOpens: DES opening, step by step
 -- DesSeals: DES sealing, step by step
 -- DesTrip: sealed DES data opens as what was sealed, and nothing else opens
 -- Forecasts: the forecast is the size that sealing writes, and its refusals are those of sealing
--- Frames: `frames` and `responds`: both schemes, in the words of statement 3
+-- Frames: `frames` and `responds`: opening exactly inverts sealing, in both schemes
 -- Fronts: the front of an output, lent to a call that works on whole blocks
 -- Ids: two transaction IDs are equal if their numbers are
 -- MacBits: the DES MAC never sees the lowest bit of a byte

@@ -6,7 +6,7 @@ use Prim.Native.Nat.{ℕ, ◌-◌, ◌/◌, ◌%◌, ◌≤◌, ◌<◌}
 use native.Mathlib.Omega.{arith}
 use borrow.Author.Tests.{ltb-false}
 use lib.Seq.{take-nil}
-use lib.ListN.{length, take, get_or, length-take}
+use lib.ListN.{length, get_or, length-take}
 use Rattle.cipher.specs.Bytes.{Bytes}
 use Rattle.cipher.proofs.Ciphers.{length_des_cbc_back}
 use Rattle.cipher.proofs.Numbers.{le_or_lt}

@@ -94,10 +94,6 @@ module _ (rs : List Row) (b : List ℕ) (size : ℕ) where
         rw (passed some s.0 (decide (row 16 (ltb (room - 2) size) ∷ []) (accepted 0 b)), sized_delivering size (room - 2) b s.3, framing_delivering code room b (omega arith))
         (delivers_meets 0 (framed code b) room (rw e at m) l)
 
--- a work block of 256 bytes, of which all but the first two were lent and came back as l
-pub behind_two : (l : List ℕ) → length l ≡ 254 → 256 ≡ suc (suc (length (l ++ [])))
-behind_two l e = rw (append-nil l, e)
-
 -- length byte and code stand before the sealed data b, which was written from the third byte on
 pub frame_front : (n code : ℕ) (b w x last rest w' : List ℕ) → n ≡ length b → 2 ≤ length w → last ≡ over b x → w' ≡ over ((n + 2) ∷ code ∷ []) (take 2 w ++ (last ++ rest)) → take (n + 2) w' ≡ framed code b
 unfolding over framed

@@ -1,4 +1,4 @@
--- Document 01, Corners (des.rs) and Carried: Authentication 2. DES: a payload to which no header is added, sealed under code 0x13; its opening
+-- Authentication 2. DES: a payload to which no header is added, sealed under code 0x13; its opening
 -- gives all but the MAC, padding too. AES: sealed data under code 0x43. Assumes nothing.
 use Rattle.std.specs.Prelude.{ℕ, ◌+◌, ◌-◌, ◌%◌, List, [], ◌∷◌, ◌++◌, eqb, ltb, length, take}
 use Rattle.answer.specs.Outcome.{Outcome, Row, accepted, row, decide}

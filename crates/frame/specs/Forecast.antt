@@ -1,5 +1,5 @@
--- Document 02, request c, in the words of its sentence; document 01, Carried and added (size forecast), and Turned-down calls (17, 12): the size
--- that a payload of n bytes has once it is sealed as a command, without length byte and code. Assumes nothing.
+-- The size forecast: the size that a payload of n bytes has once it is sealed as a command, without length byte and code (docs/GUIDE.md,
+-- Buffers). Assumes nothing.
 use Rattle.std.specs.Prelude.{ℕ, ◌+◌, ◌*◌, ◌/◌, List, [], ◌∷◌, eqb, ltb}
 use Rattle.answer.specs.Outcome.{Row, row, choose, first_of}
 use Rattle.answer.specs.Tests.{isnt, either}

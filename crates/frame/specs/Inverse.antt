@@ -1,5 +1,4 @@
--- Document 01, Contract reading, the words of statement 3: states that opening exactly inverts sealing, for a scheme, credentials, an ID and a
--- code. Assumes nothing.
+-- Opening exactly inverts sealing: what that says, for a scheme, credentials, an ID and a code. Assumes nothing.
 use Rattle.std.specs.Prelude.{◌≡◌, List, ◌↔◌, ℕ, ◌%◌, ◌≤◌, ◌<◌, length}
 use Rattle.cipher.specs.Bytes.{Bytes}
 use Rattle.answer.specs.Outcome.{refused, accepted}

@@ -1,4 +1,4 @@
--- Document 01, Corners (primitives.rs): padding acts only off an 8-byte boundary, and each byte is the count of bytes added. Assumes nothing.
+-- Padding: a string that is not whole blocks of 8 bytes gains what is missing, and each byte added is their count. Assumes nothing.
 use Rattle.std.specs.Prelude.{ℕ, ◌-◌, ◌%◌, List, ◌++◌, length, replicate}
 
 -- the count of bytes added to n

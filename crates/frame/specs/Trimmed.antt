@@ -1,5 +1,5 @@
--- Document 01, Carried and added: in the trimmed DES opening, if the payload's last byte v is 1..7, v bytes are dropped. Its rows are those of
--- the opening, with 16 about the trimmed payload. Assumes nothing.
+-- The trimmed DES opening: if the payload's last byte v is 1..7, v bytes are dropped. Its rows are those of the opening, with 16 about the
+-- trimmed payload. Assumes nothing.
 use Rattle.std.specs.Prelude.{ℕ, ◌-◌, List, ◌++◌, ltb, length, take, get_or}
 use Rattle.answer.specs.Delivery.{delivering}
 use Rattle.answer.specs.Number.{number_of}

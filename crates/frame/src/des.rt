@@ -1,6 +1,7 @@
 // Secure messaging over DES: Authentication 2, opening, the MAC, sealing (des.rs, in its order; registration packages are in package.rt).
 
 ghost use Rattle.std.specs.Prelude.{◌≡◌, true, ◌+◌, ◌-◌, ◌%◌, ◌≤◌, length, take};
+ghost use Rattle.answer.specs.Delivery.{Delivers};
 ghost use Rattle.answer.specs.Outcome.{Meets, over};
 ghost use Rattle.frame.specs.Padding.{pad_count, pad};
 ghost use Rattle.frame.specs.DesFrame.{mac_start, des_mac, mac_holds, des_seal, header, des_sealed, des_size, seal_rows, des_sealing, des_plain, des_opening};
@@ -37,8 +38,7 @@ fn decrypt_over(key: [u8; 8], data: &[u8], work: &mut [u8])
 
 // Opens the plain text of an Authentication 2 response: all but the MAC goes out.
 fn accept_authentication2(plain: &[u8], out: &mut [u8]) -> Answer
-    requires { length plain.now ≤ 256 }
-    ensures { Meets (auth2_accepting plain.now (length out.old)) result out.old out.new }
+    ensures { Delivers (auth2_accepting plain.now (length out.old)) result out.old out.new }
 {
     if plain.len() < 16 || !check_packet_mac_des(plain, AUTHENTICATION2_CODE) {
         return Err(Refusal::MacDiffers);
@@ -137,8 +137,7 @@ fn deliver_checked(
     id: [u8; 6],
     out: &mut [u8],
 ) -> Answer
-    requires { length payload.now ≤ 256 }
-    ensures { Meets (checked_delivering head.transaction_number head.transaction_id payload.now id (length out.old)) result out.old out.new }
+    ensures { Delivers (checked_delivering head.transaction_number head.transaction_id payload.now id (length out.old)) result out.old out.new }
 {
     if !same_id(head.transaction_id, id) {
         return Err(Refusal::IdDiffers);
@@ -163,8 +162,7 @@ impl<'a> SecureResponse<'a> {
 
     // Takes the response apart, and delivers it.
     pub(crate) fn deliver<'b>(self, id: [u8; 6], out: &'b mut [u8]) -> Answer
-        requires { length self.payload.now ≤ 256 }
-        ensures { Meets (checked_delivering self.entry.header.transaction_number self.entry.header.transaction_id self.entry.payload.now id (length out.old)) result out.old out.new }
+        ensures { Delivers (checked_delivering self.entry.header.transaction_number self.entry.header.transaction_id self.entry.payload.now id (length out.old)) result out.old out.new }
     {
         deliver_checked(self.header, self.payload, id, out)
     }
@@ -172,9 +170,8 @@ impl<'a> SecureResponse<'a> {
 
 // Opens a plain text that ends with its MAC.
 fn accept_des(code: u8, id: [u8; 6], plain: &[u8], out: &mut [u8]) -> Answer
-    requires in_bounds { 16 ≤ length plain.now }
-    requires plain_len_bound { length plain.now ≤ 256 }
-    ensures { Meets (des_accepting code id plain.now (length out.old)) result out.old out.new }
+    requires { 16 ≤ length plain.now }
+    ensures { Delivers (des_accepting code id plain.now (length out.old)) result out.old out.new }
 {
     SecureResponse::parse(code, plain)?.deliver(id, out)
 }

@@ -1,5 +1,6 @@
 // Sealed AES data: number, cipher payload, cipher MAC (v2_aes.rs).
 ghost use Rattle.std.specs.Prelude.{◌≡◌, ◌+◌, ◌≤◌, ◌++◌, length};
+ghost use Rattle.answer.specs.Delivery.{Delivers};
 ghost use Rattle.answer.specs.Number.{number_bytes};
 ghost use Rattle.answer.specs.Outcome.{Meets, over};
 ghost use Rattle.frame.specs.inner.AesSteps.{bytes_of, ReadFrom, Splits, aes_accepting, aes_trying};
@@ -149,8 +150,7 @@ pub fn encrypt_secure_request_v2_aes128(
 
 // 13, else payload goes out. All bytes of the MACs are compared.
 fn accept_aes(number: u16, mac: [u8; 8], wanted: [u8; 8], payload: &[u8], out: &mut [u8]) -> Answer
-    requires { length payload.now ≤ 256 }
-    ensures { Meets (aes_accepting number mac wanted payload.now (length out.old)) result out.old out.new }
+    ensures { Delivers (aes_accepting number mac wanted payload.now (length out.old)) result out.old out.new }
 {
     if !cipher::ct_eq(&mac, &wanted) {
         return Err(Refusal::MacDiffers);

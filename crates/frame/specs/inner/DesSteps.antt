@@ -1,4 +1,4 @@
--- From no document: DES opening in steps, what is left of it once there is a plain text. Assumes nothing.
+-- DES opening in steps: what is left of it once there is a plain text. Assumes nothing.
 use Rattle.std.specs.Prelude.{ℕ, List}
 use Rattle.answer.specs.Delivery.{delivering}
 use Rattle.answer.specs.Number.{number_of}

@@ -1,4 +1,4 @@
--- Document 01, Rust forms recast: a parsed DES response, which names the payload inside the decrypted bytes, and its delivery. Assumes nothing.
+-- A parsed DES response, which names the payload inside the decrypted bytes, and its delivery. Assumes nothing.
 use Rattle.std.specs.Prelude.{ℕ, ◌+◌, ◌≡◌, true, false, List, [], ◌∷◌, Result, MatchResult}
 use Rattle.answer.specs.declared.refusal.Refusal.{Refusal}
 use Rattle.answer.specs.declared.refusal.Refusal.TheVariants.{MacDiffers}

@@ -1,10 +1,7 @@
 use mathlib.Core.Path.{refl, sym, ◌∙◌}
-use Prim.Native.Nat.{◌-◌}
-use native.Mathlib.Omega.{arith}
 use lib.ListN.{length}
-use Rattle.answer.proofs.Rows.{err_meets, delivers_meets}
+use Rattle.answer.proofs.Rows.{err_delivers}
 use Rattle.frame.proofs.Authentications.{no_block, wrong_mac, right_mac}
-use Rattle.answer.proofs.Pieces.{no_longer}
 use Rattle.frame.proofs.des.accept_authentication2.Goals.{then-plain-lt16-via-then-plain-lt16, then-plain-lt16-via-else-plain-lt16+then-not-check_packet_mac_des}
 use Rattle.frame.proofs.des.accept_authentication2.Goals as goal
 
@@ -12,12 +9,11 @@ pub returns-then-plain-lt16 : goal.returns-then-plain-lt16
 returns-then-plain-lt16 c =
     let a = c.args in
     elim c.then-plain-lt16.branch [
-      | then-plain-lt16-via-then-plain-lt16 w ↦ rw (no_block a.plain.now (length a.out.now) w.if-plain-lt16.true) (err_meets _ a.out.now refl)
-      | then-plain-lt16-via-else-plain-lt16+then-not-check_packet_mac_des w ↦ rw (wrong_mac a.plain.now (length a.out.now) w.if-plain-lt16.false (sym w.check_packet_mac_des.ensures ∙ w.if-not-check_packet_mac_des.true)) (err_meets _ a.out.now refl)
+      | then-plain-lt16-via-then-plain-lt16 w ↦ rw (no_block a.plain.now (length a.out.now) w.if-plain-lt16.true) (err_delivers _ a.out.now refl)
+      | then-plain-lt16-via-else-plain-lt16+then-not-check_packet_mac_des w ↦ rw (wrong_mac a.plain.now (length a.out.now) w.if-plain-lt16.false (sym w.check_packet_mac_des.ensures ∙ w.if-not-check_packet_mac_des.true)) (err_delivers _ a.out.now refl)
     ]
 
 pub returns : goal.returns
 returns c =
     let a = c.args in
-    let l = no_longer (length a.plain.now - 8) 65535 a.plain.now _ c.strip_des_response_mac.ensures.0 (omega (arith, c.requires)) in
-    rw (right_mac a.plain.now (length a.out.now) c.if-plain-lt16.false (sym c.check_packet_mac_des.ensures ∙ c.if-not-check_packet_mac_des.false)) (rw c.strip_des_response_mac.ensures.0 at (delivers_meets _ _ _ c.deliver.ensures l))
+    rw (right_mac a.plain.now (length a.out.now) c.if-plain-lt16.false (sym c.check_packet_mac_des.ensures ∙ c.if-not-check_packet_mac_des.false)) (rw c.strip_des_response_mac.ensures.0 at c.deliver.ensures)

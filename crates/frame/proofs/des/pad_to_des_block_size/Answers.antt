@@ -3,8 +3,6 @@ use Prim.Native.Nat.{◌+◌}
 use native.Mathlib.Omega.{arith}
 use Rattle.frame.specs.Padding.{pad_count}
 use Rattle.frame.proofs.DesSeals.{padded_front, padded_length}
-use Rattle.frame.proofs.Pads.{pad_count_small}
-use borrow.Author.Rules.{rules}
 use Rattle.frame.proofs.des.pad_to_des_block_size.Goals as goal
 
 pub slice_bounds-fill-end : goal.slice_bounds-fill-end

@@ -1,4 +1,4 @@
-use mathlib.Core.Path.{◌≡◌, refl, sym, ap, ap₂, ◌∙◌}
+use mathlib.Core.Path.{◌≡◌, sym, ap, ap₂, ◌∙◌}
 use Prim.Native.Nat.{ℕ}
 use native.Mathlib.Omega.{arith}
 use borrow.Author.Rules.{rules}
@@ -9,7 +9,7 @@ use Rattle.answer.specs.Outcome.{choose, first_of, over}
 use Rattle.answer.specs.Refusal.{refusal_number}
 use Rattle.answer.specs.Tests.{isnt, either}
 use Rattle.answer.proofs.Rows.{first_17, second_17}
-use Rattle.frame.specs.DesFrame.{des_sealed, des_size, seal_rows}
+use Rattle.frame.specs.DesFrame.{des_sealed, seal_rows}
 use Rattle.frame.proofs.DesSeals.{size_most}
 use Rattle.frame.proofs.WorkBlocks.{not_sealed}
 use Rattle.frame.proofs.des.seal_des.Goals as goal

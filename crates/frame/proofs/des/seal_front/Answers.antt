@@ -1,7 +1,7 @@
 use mathlib.Core.Path.{◌≡◌}
-use Prim.Native.Nat.{◌+◌, ◌-◌, ◌≤◌}
+use Prim.Native.Nat.{◌+◌, ◌-◌}
 use native.Mathlib.Omega.{arith}
-use lib.ListN.{length, take, drop}
+use lib.ListN.{length, take}
 use Rattle.frame.specs.Padding.{pad}
 use Rattle.answer.proofs.Pieces.{placed_next}
 use Rattle.frame.proofs.DesSeals.{length_padded, sealed_front}

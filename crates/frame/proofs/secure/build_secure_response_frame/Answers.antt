@@ -1,10 +1,7 @@
 use mathlib.Core.Path.{ap, sym, ◌∙◌}
 use borrow.Author.Rules.{rules}
 use lib.ListN.{length}
-use Rattle.answer.specs.Refusal.{refusal_number}
 use Rattle.answer.specs.Scheme.{mark_of}
-use Rattle.answer.specs.Outcome.{refused}
-use Rattle.answer.proofs.Rows.{err_meets}
 use Rattle.frame.proofs.Schemes.{responding_des, responding_aes, responding_17}
 use Rattle.frame.proofs.secure.build_secure_response_frame.Goals as goal
 
@@ -12,13 +9,3 @@ pub returns-in_err-try_from : goal.returns-in_err-try_from
 returns-in_err-try_from c =
     let a = c.args in
     responding_17 a.scheme a.credentials.now a.id.now a.payload.now a.code a.number (length a.out.now) c.in_err-try_from.field-0.0 _ (search rules) c.in_err-try_from.ensures
-
-pub returns-in-Des : goal.returns-in-Des
-returns-in-Des c =
-    let a = c.args in
-    rw (responding_des a.scheme a.credentials.now a.id.now a.payload.now a.code a.number (length a.out.now) (sym c.in_ok-try_from.ensures ∙ ap mark_of c.in-Des.is)) c.build_secure_response_frame_des.ensures
-
-pub returns-in-Aes128 : goal.returns-in-Aes128
-returns-in-Aes128 c =
-    let a = c.args in
-    rw (responding_aes a.scheme a.credentials.now a.id.now a.payload.now a.code a.number (length a.out.now) (sym c.in_ok-try_from.ensures ∙ ap mark_of c.in-Aes128.is)) c.build_secure_response_frame_v2_aes128.ensures

@@ -1,7 +1,6 @@
-use mathlib.Core.Path.{◌≡◌, ap, sym, ◌∙◌}
+use mathlib.Core.Path.{ap, sym, ◌∙◌}
 use borrow.Author.Rules.{rules}
 use Rattle.answer.specs.Scheme.{mark_of}
-use Rattle.answer.proofs.Rows.{err_meets}
 use Rattle.frame.specs.Scheme.{sealing}
 use Rattle.frame.proofs.Schemes.{mark_des, mark_aes, mark_17}
 use Rattle.frame.proofs.secure.encrypt_command.Goals as goal

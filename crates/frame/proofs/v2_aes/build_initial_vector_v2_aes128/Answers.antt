@@ -6,12 +6,6 @@ use Rattle.frame.proofs.AesSeals.{with_part, iv_start, iv_built}
 use Rattle.answer.proofs.Pieces.{reaches}
 use Rattle.frame.proofs.v2_aes.build_initial_vector_v2_aes128.Goals as goal
 
-pub slice_bounds-iv-end-3 : goal.slice_bounds-iv-end-3
-slice_bounds-iv-end-3 c =
-    let a = c.args in
-    let start = iv_start a.payload_length a.code in
-    reaches (with_part start 3 2 c.copy_from_slice.new.self) c.copy_from_slice-2.new.self 5 6 14 c.copy_from_slice-2.auto.self (reaches start c.copy_from_slice.new.self 3 2 14 c.copy_from_slice.auto.self (lit≤ tt))
-
 pub returns : goal.returns
 returns c =
     let a = c.args in

@@ -1,7 +1,7 @@
 use mathlib.Core.Path.{refl, ◌∙◌}
 use mathlib.Core.List.{◌++◌}
 use native.Mathlib.Omega.{arith}
-use Prim.Native.Nat.{◌+◌, ◌-◌, ◌≤◌}
+use Prim.Native.Nat.{◌+◌, ◌-◌}
 use lib.ListN.{length, drop}
 use lib.Seq.{length_front}
 use Rattle.frame.specs.AesFrame.{aes_size}
@@ -9,13 +9,6 @@ use Rattle.frame.specs.inner.AesSteps.{bytes_of}
 use Rattle.frame.proofs.AesSeals.{with_part, sealed_written, cipher_key_is, mac_key_is, challenge_3c_is}
 use Rattle.answer.proofs.Pieces.{reaches}
 use Rattle.frame.proofs.v2_aes.write_aes.Goals as goal
-
-pub slice_bounds-copy_from_slice-end-4 : goal.slice_bounds-copy_from_slice-end-4
-slice_bounds-copy_from_slice-end-4 c =
-    let n = length c.args.payload.now in
-    let s = c.copy_from_slice.new.self ++ drop 2 c.args.out.now in
-    reaches (with_part s 2 (n + 2 - 2) c.copy.new.dst) c.apply_aes128_ofb_parts.new.first 2 (n + 2 - 2) (n + 10) c.apply_aes128_ofb_parts.auto.first
-    (reaches s c.copy.new.dst 2 (n + 2 - 2) (n + 10) c.copy.auto.dst (rw (length_front c.args.out.now c.copy_from_slice.new.self 2 c.copy_from_slice.auto.self) c.requires.payload_in_bounds))
 
 pub returns : goal.returns
 unfolding aes_size
