@@ -1,27 +1,26 @@
 -- The search for a node in a session's list. Assumes nothing.
-use mathlib.Core.Path.{◌≡◌, refl, sym, ap, ap₂, ◌∙◌}
+use mathlib.Core.Path.{◌≡◌, refl, sym, ap, ◌∙◌}
 use mathlib.Core.Bool.{Bool, true, false, cond, not}
 use mathlib.Core.List.{List, [], ◌∷◌}
 use mathlib.Core.Logic.{⊎_elim}
-use Prim.Native.Nat.{ℕ, zero, suc, ◌+◌, ◌/◌, ◌≤◌, ◌<◌, min}
+use Prim.Native.Nat.{ℕ, zero, suc, ◌+◌, ◌*◌, ◌/◌, ◌≤◌, ◌<◌, min}
 use native.Mathlib.Nat.{min-eq_left, min-eq_right}
 use native.Mathlib.Omega.{arith}
-use borrow.Author.Tests.{lt-ltb, le-ltb}
+use borrow.Author.Tests.{lt-ltb, le-ltb, ltb-false}
 use lib.Dec.{eqb, ltb}
 use lib.ListN.{length, take, drop}
+use lib.Seq.{length-take-le}
 use Rattle.std.specs.Prelude.{Option, Some, None}
+use Rattle.std.specs.Option.{unwrap_or}
 use Rattle.std.specs.List.{position_or_len, position}
 use Rattle.std.specs.Simd.{first_chunks}
 use Rattle.cipher.proofs.Numbers.{le_or_lt}
 use Rattle.answer.specs.Number.{number_of}
 use Rattle.answer.specs.Outcome.{choose}
+use Rattle.answer.proofs.Rows.{choose_most}
+use Rattle.session.proofs.NodeLists.{length_first_nodes}
 use Rattle.session.specs.Entries.{first_nodes, nodes}
 use Rattle.session.specs.Session.{first_place, index_in, listed_count}
-
--- what a search answers, as an index
-abbrev pub place_or_64 : Option ℕ → ℕ
-place_or_64 (Some i) = i
-place_or_64 None = 64
 
 -- ---- the same search, over the pairs of bytes
 
@@ -52,16 +51,24 @@ module _ (node : ℕ) where
   how_many zero l = refl
   how_many (suc n) l = ap suc (how_many n (drop 2 l))
 
-  either_place : (b : Bool) (p : ℕ) → place_or_64 (cond b (Some p) None) ≡ choose b p 64
-  unfolding choose
-  either_place true p = refl
-  either_place false p = refl
+  first_most : (ns : List ℕ) → first_place ns node ≤ length ns
+  unfolding first_place
+  first_most [] = omega arith
+  first_most (n ∷ ns) = let h = first_most ns in choose_most (eqb n node) 0 (suc (first_place ns node)) (suc (length ns)) (omega arith) (omega arith)
 
-  pub index_is : (l : List ℕ) (r : Option ℕ) → r ≡ position test (first_chunks 2 (length l / 2) l) → place_or_64 r ≡ index_in (nodes l) node
-  unfolding index_in nodes
-  index_is l r e =
+  -- what the search answers, or how many pairs there are
+  or_all : (b : Bool) (p n : ℕ) → ltb p n ≡ b → p ≤ n → unwrap_or (cond b (Some p) None) n ≡ p
+  or_all true p n e h = refl
+  or_all false p n e h = let l = ltb-false p n e in omega arith
+
+  pub first_place_lem : (l : List ℕ) (r : Option ℕ) (k : ℕ) → r ≡ position test (first_chunks 2 (length l / 2) l) → k ≡ unwrap_or r (length (first_chunks 2 (length l / 2) l)) → k ≡ first_place (nodes l) node
+  unfolding nodes
+  first_place_lem l r k e q =
       let n : ℕ = length l / 2 in
-      ap place_or_64 e ∙ either_place _ _ ∙ ap₂ (λ (p k : ℕ). choose (ltb p k) p 64) (sym (first_is n l)) (sym (how_many n l))
+      let p : ℕ = position_or_len test (first_chunks 2 n l) in
+      let m : ℕ = length (first_chunks 2 n l) in
+      let h : p ≤ m = rw (first_is n l, how_many n l) at (first_most (first_nodes n l)) in
+      q ∙ ap (λ (o : Option ℕ). unwrap_or o m) e ∙ or_all (ltb p m) p m refl h ∙ sym (first_is n l)
 
 -- ---- how many nodes are listed
 
@@ -72,3 +79,61 @@ listed_is n k e =
     (λ (h : 64 ≤ n). e ∙ min-eq_right h ∙ rw (le-ltb n 64 h))
     (λ (h : n < 64). let m : n ≤ 64 = omega arith in e ∙ min-eq_left m ∙ rw (lt-ltb n 64 h))
     (le_or_lt 64 n)
+
+-- ---- the index: the search goes through the whole list, and count says how many nodes of it are listed
+
+-- the first nodes of a list are those of its front
+front_nodes : (k : ℕ) (l : List ℕ) → k * 2 ≤ length l → first_nodes k (take (k * 2) l) ≡ first_nodes k l
+unfolding first_nodes
+front_nodes zero l h = refl
+front_nodes (suc k) [] h = absurd (omega (arith, h))
+front_nodes (suc k) (x ∷ []) h = absurd (omega (arith, h))
+front_nodes (suc k) (x ∷ y ∷ l) h =
+    let e : suc k * 2 ≡ suc (suc (k * 2)) = omega arith in
+    rw e (ap (◌∷◌ (x + y * 256)) (front_nodes k l (omega (arith, h))))
+
+step_among : (b : Bool) (p q k : ℕ) → (q < k → p ≡ q) → choose b 0 (suc q) < suc k → choose b 0 (suc p) ≡ choose b 0 (suc q)
+unfolding choose
+step_among true p q k f h = refl
+step_among false p q k f h = ap suc (f (omega (arith, h)))
+
+step_beyond : (b : Bool) (p q k : ℕ) → (k ≤ q → p ≡ k) → suc k ≤ choose b 0 (suc q) → choose b 0 (suc p) ≡ suc k
+unfolding choose
+step_beyond true p q k f h = absurd (omega (arith, h))
+step_beyond false p q k f h = ap suc (f (omega (arith, h)))
+
+-- a first place among n nodes that is one of the first k is their first place; another is none of theirs
+place_among : (n k : ℕ) (l : List ℕ) (node : ℕ) → k ≤ n → first_place (first_nodes n l) node < k → first_place (first_nodes k l) node ≡ first_place (first_nodes n l) node
+unfolding first_nodes first_place
+place_among n zero l node m h = absurd (omega (arith, h))
+place_among zero (suc k) l node m h = absurd (omega (arith, m))
+place_among (suc n) (suc k) l node m h = step_among (eqb (number_of l) node) _ _ k (place_among n k (drop 2 l) node (omega (arith, m))) h
+
+place_beyond : (n k : ℕ) (l : List ℕ) (node : ℕ) → k ≤ n → k ≤ first_place (first_nodes n l) node → first_place (first_nodes k l) node ≡ k
+unfolding first_nodes first_place
+place_beyond n zero l node m h = refl
+place_beyond zero (suc k) l node m h = absurd (omega (arith, m))
+place_beyond (suc n) (suc k) l node m h = step_beyond (eqb (number_of l) node) _ _ k (place_beyond n k (drop 2 l) node (omega (arith, m))) h
+
+module _ (l : List ℕ) (count node r : ℕ) (is : r ≡ first_place (nodes l) node) (long : count * 2 ≤ length l) where
+  listed : nodes (take (count * 2) l) ≡ first_nodes count l
+  unfolding nodes
+  listed =
+      let e : length (take (count * 2) l) ≡ count * 2 = length-take-le (count * 2) l long in
+      let n : length (take (count * 2) l) / 2 ≡ count = omega (arith, e) in
+      ap (λ (k : ℕ). first_nodes k (take (count * 2) l)) n ∙ front_nodes count l long
+
+  pub index_found : r < count → r ≡ index_in (nodes (take (count * 2) l)) node
+  unfolding index_in choose nodes
+  index_found h =
+      let p : first_place (first_nodes count l) node ≡ first_place (first_nodes (length l / 2) l) node =
+      place_among (length l / 2) count l node (omega (arith, long)) (omega (arith, is, h)) in
+      let k : first_place (first_nodes count l) node < length (first_nodes count l) = rw (length_first_nodes count l) (omega (arith, is, p, h)) in
+      is ∙ rw (listed, lt-ltb _ _ k) (sym p)
+
+  pub index_missing : count ≤ r → 64 ≡ index_in (nodes (take (count * 2) l)) node
+  unfolding index_in choose nodes
+  index_missing h =
+      let p : first_place (first_nodes count l) node ≡ count = place_beyond (length l / 2) count l node (omega (arith, long)) (omega (arith, is, h)) in
+      let k : length (first_nodes count l) ≤ first_place (first_nodes count l) node = rw (length_first_nodes count l) (omega (arith, p)) in
+      rw (listed, le-ltb _ _ k)

@@ -1,9 +1,10 @@
 // The session after authentication (AuthenticatedContext of mod.rs).
-ghost use Rattle.std.specs.Prelude.{◌≡◌, ◌*◌, length, take};
+ghost use Rattle.std.specs.Prelude.{◌≡◌, ◌*◌, ◌≤◌, length, take};
 ghost use Rattle.answer.specs.Outcome.{Meets};
 ghost use Rattle.answer.specs.Refusal.{refusal_number};
-ghost use Rattle.session.specs.Session.{Makes, with_number, StepsTo, Steps, counting, listed_count, index, Receives, receiving, credentials_size, credentials_of};
+ghost use Rattle.session.specs.Session.{Makes, with_number, StepsTo, Steps, counting, listed_count, first_place, index, Receives, receiving, credentials_size, credentials_of};
 ghost use Rattle.frame.specs.Scheme.{sealing, opening};
+ghost use Rattle.session.specs.Entries.{nodes as node_list};
 ghost use Rattle.session.specs.Record.{encode, decode};
 
 use answer::{Accepted, Answer, Refusal, Scheme};
@@ -99,25 +100,41 @@ impl AuthenticatedContext {
         self.turned_away
     }
 
-    // The bytes of the session's nodes, of which there are at most 64. A count over 64 cannot arise from a session that was made, or decoded from
-    // bytes that are a session; it is cut, so that this is total.
+    // How many nodes are listed: at most 64. A count over 64 cannot arise from a session that was made, or decoded from bytes that are a session;
+    // it is cut, so that this is total.
+    fn listed(&self) -> usize
+        ensures { (result ≡ listed_count self.now.node_count) × (result ≤ 64) }
+    {
+        usize::from(self.node_count.min(NODES_MAX))
+    }
+
+    // The bytes of the nodes that are listed.
     pub fn listed_nodes(&self) -> &[u8]
         ensures { result.now ≡ take (listed_count self.now.node_count * 2) self.now.nodes }
     {
-        &self.nodes[..usize::from(self.node_count.min(NODES_MAX)) * 2]
+        &self.nodes[..self.listed() * 2]
+    }
+
+    // The first place of a node in all of nodes; 64 where there is none. The search goes through all 64 places: with a fixed length it is faster.
+    fn first_place(&self, node: u16) -> usize
+        ensures { result ≡ first_place (node_list self.now.nodes) node }
+    {
+        let (pairs, _) = self.nodes.as_chunks::<2>();
+        pairs
+            .iter()
+            .position(|pair| u16::from_le_bytes(*pair) == node)
+            .unwrap_or(pairs.len())
     }
 
     // The first place of a node in the session's list, from 0; 64 where it is not listed.
     pub fn node_index(&self, node: u16) -> u16
         ensures { result ≡ index self.now node }
     {
-        let (listed, _) = self.listed_nodes().as_chunks::<2>();
-        match listed
-            .iter()
-            .position(|bytes| u16::from_le_bytes(*bytes) == node)
-        {
-            Some(place) => place as u16,
-            None => NODES_MAX,
+        let place = self.first_place(node);
+        if place < self.listed() {
+            place as u16
+        } else {
+            NODES_MAX
         }
     }
 
