@@ -4,8 +4,8 @@ use mathlib.Core.List.{List, [], ◌∷◌, ◌++◌, append_assoc}
 use Prim.Native.Nat.{ℕ, ◌+◌, ◌-◌, ◌/◌, ◌%◌, ◌≤◌}
 use native.Mathlib.Omega.{arith}
 use lib.Dec.{ltb}
-use lib.ListN.{length, take, drop, take-append-drop, set, replicate, get_or, length-append, length-drop, drop_of_length-le}
-use lib.Seq.{take_at, drop_at, drop-drop, take_all, length-take-le, set_split, set_at, drop-cons}
+use lib.ListN.{length, take, drop, take-append-drop, set, replicate, length-append, length-drop, drop_of_length-le}
+use lib.Seq.{take_at, drop_at, drop-drop, take_all}
 use Rattle.cipher.specs.Fips197.{aes_encrypt}
 use Rattle.cipher.specs.Sp80038a.{blocks, ofb, ofb_input}
 use Rattle.cipher.specs.Sp80038b.{cmac, R128}
@@ -67,24 +67,20 @@ module _ (n code : ℕ) (number id c3 : List ℕ) (two : length number ≡ 2) (s
 
 -- ---- the MAC
 
--- the block that goes in front of the payload, from the IV
-pub first_block : (iv : List ℕ) (x hi lo : ℕ) → length iv ≡ 16 → set (set (set iv 0 x) 14 hi) 15 lo ≡ x ∷ (take 13 (drop 1 iv) ++ (hi ∷ lo ∷ []))
-first_block [] x hi lo h = absurd (omega arith)
-first_block (y ∷ l) x hi lo h =
-    let k : length l ≡ 15 = omega arith in
-    let a : set l 13 hi ≡ take 13 l ++ (hi ∷ drop 14 l) = set_split l 13 hi (omega arith) in
-    let d : drop 14 l ≡ get_or l 14 0 ∷ drop 15 l = drop-cons l 14 0 (omega arith) in
-    let z : drop 15 l ≡ [] = drop_of_length-le l {i = 15} (omega arith) in
-    let t : length (take 13 l) ≡ 13 = length-take-le 13 l (omega arith) in
-    let u : length (take 13 l ++ (hi ∷ [])) ≡ 14 = length-append (take 13 l) (hi ∷ []) ∙ omega arith in
-    let b : set l 13 hi ≡ (take 13 l ++ (hi ∷ [])) ++ (get_or l 14 0 ∷ []) = a ∙ rw (d, z) (sym (append_assoc (take 13 l) (hi ∷ []) (get_or l 14 0 ∷ []))) in
-    ap (λ (m : List ℕ). x ∷ m)
-    (ap (λ (m : List ℕ). set m 14 lo) b ∙ set_at (take 13 l ++ (hi ∷ [])) (get_or l 14 0) [] lo 14 u ∙ append_assoc (take 13 l) (hi ∷ []) (lo ∷ []))
+-- the block that goes in front of the payload, from the IV: the payload's length was put at its end
+pub first_block : (iv last : List ℕ) (x hi lo : ℕ) → length iv ≡ 16 → last ≡ hi ∷ lo ∷ [] → with_part (set iv 0 x) 14 2 last ≡ x ∷ (take 13 (drop 1 iv) ++ (hi ∷ lo ∷ []))
+first_block [] last x hi lo h e = absurd (omega arith)
+first_block (y ∷ l) last x hi lo h e =
+    let z : length l ≤ 15 = omega arith in
+    rw (e, drop-drop 2 13 l, drop_of_length-le l z) refl
 
-pub mac_made : (key iv payload full r : List ℕ) → length iv ≡ 16
-    → full ≡ cmac (aes_encrypt key) 16 R128 (set (set (set iv 0 0x19) 14 (length payload / 256 % 256)) 15 (length payload % 256) ++ payload) → r ≡ take 8 full → r ≡ aes_mac key iv payload
+pub mac_made : (key iv payload last full r : List ℕ) → length iv ≡ 16 → last ≡ length payload % 65536 / 256 % 256 ∷ length payload % 65536 % 256 ∷ []
+    → full ≡ cmac (aes_encrypt key) 16 R128 (with_part (set iv 0 0x19) 14 2 last ++ payload) → r ≡ take 8 full → r ≡ aes_mac key iv payload
 unfolding aes_mac
-mac_made key iv payload full r h f e = e ∙ rw (f, first_block iv 0x19 (length payload / 256 % 256) (length payload % 256) h)
+mac_made key iv payload last full r h el f e =
+    let a : length payload % 65536 / 256 % 256 ≡ length payload / 256 % 256 = omega arith in
+    let b : length payload % 65536 % 256 ≡ length payload % 256 = omega arith in
+    e ∙ rw (f, first_block iv last 0x19 _ _ h el, a, b)
 
 -- ---- the sealed data
 

@@ -5,6 +5,9 @@ ghost use Rattle.frame.specs.Package.{package_cipher, package_mac, packaged, pac
 
 use answer::{Accepted, Answer, Refusal};
 
+// The longest plain package.
+const PACKAGE_MAX: usize = 4096;
+
 // The last CBC block under the complemented key. out holds the cipher text meanwhile.
 fn package_mac(key: [u8; 8], plain: &[u8], out: &mut [u8]) -> [u8; 8]
     requires plain_len { length plain.now % 8 ≡ 0 }
@@ -43,7 +46,7 @@ pub fn generate_registration_package_des(key: &[u8], plain: &[u8], out: &mut [u8
     if n == 0 || n % 8 != 0 {
         return Err(Refusal::NotWholeBlocks);
     }
-    if 4096 < n {
+    if PACKAGE_MAX < n {
         return Err(Refusal::TooLong);
     }
     if out.len() < n + 8 {

@@ -7,7 +7,7 @@ ghost use Rattle.frame.specs.Scheme.{sealing, opening, responding};
 use crate::{des, v2_aes};
 use answer::{Accepted, Answer, Scheme};
 
-// Scheme marks. They stand here once; a key's algorithm has the same numbers.
+// Scheme marks, as callers pass them: those of answer::Scheme. A key's algorithm has the same numbers.
 pub const DES: u8 = 1;
 
 pub const AES128: u8 = 2;

@@ -65,11 +65,10 @@ fn build_initial_vector_v2_aes128(
 fn calculate_mac_v2_aes128(iv: [u8; 16], payload: &[u8], mac_key: [u8; 16]) -> [u8; 8]
     ensures { result ≡ aes_mac mac_key iv payload.now }
 {
-    let n = payload.len();
+    let length = (payload.len() % 65536) as u16;
     let mut b0 = iv;
     b0[0] = 0x19;
-    b0[14] = (n / 256 % 256) as u8;
-    b0[15] = (n % 256) as u8;
+    b0[14..].copy_from_slice(&length.to_be_bytes());
     let full = cipher::aes128_cmac_after_block(b0, payload, mac_key);
     answer::fit(&full[..8])
 }

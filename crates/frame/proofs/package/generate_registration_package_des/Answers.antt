@@ -23,13 +23,13 @@ returns-then-n-eq0 c =
       | then-n-eq0-via-else-n-eq0+then-n-ne0 w ↦ blocks_10 _ _ _ c.in_ok-key.ensures.0 w.if-n-eq0.false w.if-n-ne0.true
     ])
 
-pub returns-then-n-gt4096 : goal.returns-then-n-gt4096
+pub returns-then-n-gt-PACKAGE_MAX : goal.returns-then-n-gt-PACKAGE_MAX
 unfolding packaging
-returns-then-n-gt4096 c = row_meets _ _ _ c.args.out.now refl (long_12 _ _ _ c.in_ok-key.ensures.0 c.if-n-eq0.false c.if-n-ne0.false c.if-n-gt4096.true)
+returns-then-n-gt-PACKAGE_MAX c = row_meets _ _ _ c.args.out.now refl (long_12 _ _ _ c.in_ok-key.ensures.0 c.if-n-eq0.false c.if-n-ne0.false c.if-n-gt-PACKAGE_MAX.true)
 
 pub returns-then-out-n : goal.returns-then-out-n
 unfolding packaging
-returns-then-out-n c = row_meets _ _ _ c.args.out.now refl (room_16 _ _ _ c.in_ok-key.ensures.0 c.if-n-eq0.false c.if-n-ne0.false c.if-n-gt4096.false c.if-out-n.true)
+returns-then-out-n c = row_meets _ _ _ c.args.out.now refl (room_16 _ _ _ c.in_ok-key.ensures.0 c.if-n-eq0.false c.if-n-ne0.false c.if-n-gt-PACKAGE_MAX.false c.if-out-n.true)
 
 pub returns : goal.returns
 unfolding packaging
@@ -40,5 +40,5 @@ returns c =
     let k = c.in_ok-key.ensures in
     let w = c.write_package-length.ensures in
     let b : packaged c.in_ok-key.key p ≡ packaged a.key.now p = ap (λ (k : List ℕ). packaged k p) k.1 in
-    passed_meets _ _ _ o _ (package_none (length a.key.now) (length p) (length o) k.0 c.if-n-eq0.false c.if-n-ne0.false c.if-n-gt4096.false c.if-out-n.false)
+    passed_meets _ _ _ o _ (package_none (length a.key.now) (length p) (length o) k.0 c.if-n-eq0.false c.if-n-ne0.false c.if-n-gt-PACKAGE_MAX.false c.if-out-n.false)
     (accepted_meets 0 _ _ o _ refl (c.sized.ensures.0 ∙ w.1 ∙ ap length b) c.sized.ensures.1 (w.2 ∙ ap (λ (l : List ℕ). over l o) b))

@@ -1,8 +1,6 @@
-use mathlib.Core.Path.{ap, sym, ◌∙◌}
 use borrow.Author.Rules.{rules}
 use lib.ListN.{length}
-use Rattle.answer.specs.Scheme.{mark_of}
-use Rattle.frame.proofs.Schemes.{responding_des, responding_aes, responding_17}
+use Rattle.frame.proofs.Schemes.{responding_17}
 use Rattle.frame.proofs.secure.build_secure_response_frame.Goals as goal
 
 pub returns-in_err-try_from : goal.returns-in_err-try_from

@@ -1,9 +1,7 @@
 use mathlib.Core.Path.{refl, ◌∙◌}
 use native.Mathlib.Omega.{arith}
-use lib.Dec.{lit≤}
 use Rattle.answer.specs.Number.{number_bytes}
-use Rattle.frame.proofs.AesSeals.{with_part, iv_start, iv_built}
-use Rattle.answer.proofs.Pieces.{reaches}
+use Rattle.frame.proofs.AesSeals.{iv_built}
 use Rattle.frame.proofs.v2_aes.build_initial_vector_v2_aes128.Goals as goal
 
 pub returns : goal.returns

@@ -3,11 +3,9 @@ use mathlib.Core.List.{◌++◌}
 use native.Mathlib.Omega.{arith}
 use Prim.Native.Nat.{◌+◌, ◌-◌}
 use lib.ListN.{length, drop}
-use lib.Seq.{length_front}
 use Rattle.frame.specs.AesFrame.{aes_size}
 use Rattle.frame.specs.inner.AesSteps.{bytes_of}
 use Rattle.frame.proofs.AesSeals.{with_part, sealed_written, cipher_key_is, mac_key_is, challenge_3c_is}
-use Rattle.answer.proofs.Pieces.{reaches}
 use Rattle.frame.proofs.v2_aes.write_aes.Goals as goal
 
 pub returns : goal.returns
