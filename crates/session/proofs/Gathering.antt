@@ -5,7 +5,7 @@ use mathlib.Core.List.{List, [], ◌∷◌, ◌++◌, append_assoc, append-nil}
 use Prim.Native.Nat.{ℕ, zero, suc, ◌+◌, ◌-◌, ◌*◌, ◌/◌, ◌≤◌, ◌<◌}
 use native.Mathlib.Nat.{suc-mul}
 use native.Mathlib.Omega.{arith}
-use borrow.Author.Tests.{eq-eqb, ne_eqb, ltb-true}
+use borrow.Author.Tests.{ne_eqb, ltb-true}
 use borrow.Rule.Slice.PartMut.{put_mid}
 use lib.Dec.{lit≤, eqb}
 use lib.ListN.{length, take, drop, length-append, take-append-drop}
@@ -18,7 +18,7 @@ use Rattle.std.specs.Iterator.{Yields}
 use Rattle.answer.specs.declared.refusal.Refusal.{Refusal}
 use Rattle.cipher.specs.Bytes.{Bytes}
 use Rattle.cipher.proofs.ByteLists.{Bytes-nil, Bytes-append, Bytes-take, Bytes-drop}
-use Rattle.cipher.proofs.Copies.{length_part}
+use Rattle.cipher.proofs.Copies.{length_part, stored}
 use Rattle.answer.specs.Outcome.{choose}
 use Rattle.answer.proofs.Rows.{choose_most}
 use Rattle.session.specs.Entries.{Entry, entry_of, first_entries, entries, place, has, key_at}
@@ -164,10 +164,6 @@ module _ (es : List Entry) (a : ℕ) where
   unfolding keys_of
   keys_of_one n = append-nil (key_of es a n)
 
-  missing_one : (n : ℕ) → missing es a (n ∷ []) ≡ choose (has es n a) (turned_down 0 0) (lacks es n a)
-  unfolding missing needing
-  missing_one n = refl
-
   pub lacks_number : (n : ℕ) → (lacks es n a).number ≡ 0 → ⊥
   unfolding lacks choose turned_down
   lacks_number n h = go (has es n (other a)) h
@@ -184,11 +180,6 @@ module _ (es : List Entry) (a : ℕ) where
 
   pub missing_first : (ns ms : List ℕ) → (missing es a (ns ++ ms)).number ≡ 0 → (missing es a ns).number ≡ 0
   missing_first ns ms h = first_at (missing es a ns).number (missing es a ms) (missing es a ns) refl (rw (missing_append ns ms) at h)
-
-  -- and nothing in the rest
-  pub missing_rest : (ns ms : List ℕ) → (missing es a (ns ++ ms)).number ≡ 0 → (missing es a ms).number ≡ 0
-  unfolding choose
-  missing_rest ns ms h = let z : (missing es a ns).number ≡ 0 = missing_first ns ms h in rw (eq-eqb _ _ z) at (rw (missing_append ns ms) at h)
 
 -- nothing is missing
 pub missing_none : (es : List Entry) (a : ℕ) (ns : List ℕ) → ((d : Derived) → needing es a ns d ≡ d) → (missing es a ns).number ≡ 0
@@ -222,15 +213,11 @@ module _ (es : List Entry) (a : ℕ) where
           bytes = g ∙ ap₂ ◌++◌ s.bytes (e ∙ sym (keys_of_one es a n)) ∙ sym (keys_of_append es a ns (n ∷ []));
         }
 
-    -- by a copy into the k bytes behind them
-    pub gathered_copied : (key b : List ℕ) (k : ℕ) → has es n a ≡ true → key ≡ key_of es a n → length key ≡ k → size + k ≤ length w → b ≡ key
-        → Gathered es a (ns ++ (n ∷ [])) (size + length key) (put_mid size (size + length key - size) w b)
-    gathered_copied key b k t e h room q =
-        let f : length key + size ≡ size + length key = omega arith in
-        let g : size + length key - size ≡ length key = omega arith in
-        let m : size + length key ≤ length w = omega arith in
-        gathered_more key _ t e m
-        (rw (g, q, drop-drop (length key) size w) (sym (append_assoc (take size w) key (drop (size + length key) w))))
+    -- by a copy
+    pub gathered_copied : (key last : List ℕ) → has es n a ≡ true → key ≡ key_of es a n → size + length key ≤ length w
+        → last ≡ take (length (take (size + length key - size) (drop size w))) key ++ drop (length key) (take (size + length key - size) (drop size w))
+        → Gathered es a (ns ++ (n ∷ [])) (size + length key) (put_mid size (size + length key - size) w last)
+    gathered_copied key last t e room q = gathered_more key _ t e room (stored w size (length key) room key last q refl)
 
     -- the next node lacks its key
     pub gathered_lacks : (ms : List ℕ) (o : Derived) → has es n a ≡ false → lacks es n a ≡ o → (d : Derived) → needing es a (ns ++ (n ∷ ms)) d ≡ o

@@ -1,15 +1,14 @@
 // Key derivation (keys.rs, in its order).
-ghost use Rattle.std.specs.Prelude.{◌≡◌, true, false, List, [], ◌∷◌, ◌++◌, ℕ, ◌+◌, ◌-◌, ◌*◌, ◌/◌, ◌<◌, ◌≤◌, ◌≢◌, eqb, ltb, length, take, drop, MatchOption, MatchResult, IfOk};
+ghost use Rattle.std.specs.Prelude.{◌≡◌, true, false, List, [], ◌++◌, ℕ, ◌/◌, ◌<◌, ◌≤◌, ◌≢◌, length, MatchOption, MatchResult, IfOk};
 ghost use Rattle.std.specs.Iterator.{UpTo};
 ghost use Rattle.answer.specs.Scheme.{mark_of};
-ghost use Rattle.session.specs.Derivation.{des_rows, other, key_length, key_of, lacks, derived, derived_des, derived_aes, individual_key, target, derive_rows, derivation, with_room, Derives};
+ghost use Rattle.session.specs.Derivation.{des_rows, other, key_length, key_of, lacks, derived, derived_des, derived_aes, target, derive_rows, derivation, with_room, Derives};
 ghost use Rattle.session.specs.ServiceCode.{bearing};
 ghost use Rattle.session.specs.inner.DerivationSteps.{refusing, Guards, forced_mark, bytes_of, Chooses, Lists, Gathers, Chains};
 ghost use Rattle.session.specs.Entries.{entry_of, entries, nodes as node_list, is_for, place, has, key_at, unknown_algorithm, twice};
 
 use crate::types::{Nodes, is_key_free_service};
 use answer::{Refusal, Scheme};
-use std::iter::once;
 
 const SYSTEM_SERVICE_CODE: u16 = 0xFFFF;
 
@@ -44,8 +43,7 @@ fn find_key(keys: &[u8], node: u16, algorithm: u8) -> Option<&[u8]>
 fn has_key(keys: &[u8], node: u16, algorithm: u8) -> bool
     ensures { result ≡ has (entries keys.now) node algorithm }
 {
-    keys.chunks_exact(19)
-        .any(|entry| is_for(entry, node, algorithm))
+    find_key(keys, node, algorithm).is_some()
 }
 
 fn any_algorithm_unknown(keys: &[u8]) -> bool
@@ -105,8 +103,9 @@ fn deliver(
     if out.len() < size {
         return Err(Refusal::OutputTooSmall);
     }
-    out[..n].copy_from_slice(first);
-    out[n..size].copy_from_slice(second);
+    // cipher::copy is a memcpy in the archive, copy_from_slice of an unknown length a memmove.
+    cipher::copy(first, out);
+    cipher::copy(second, &mut out[n..size]);
     Ok(DerivedAuthKeys {
         length: size as u16,
         scheme,
@@ -300,7 +299,7 @@ fn needed_key(keys: &[u8], scheme: Scheme, node: u16) -> Result<&[u8], Refusal>
     }
 }
 
-// Puts the keys of nodes one behind the other over the front of work; answers how many bytes they are.
+// Puts the keys of nodes one behind the other over the front of work; answers how many bytes they are. There is no heap for a list of them.
 fn gather<I: Iterator<Item = u16> + Drop>(
     keys: &[u8],
     scheme: Scheme,
@@ -317,7 +316,8 @@ fn gather<I: Iterator<Item = u16> + Drop>(
         let key = needed_key(keys, scheme, node)?;
         let start = end;
         end += key.len();
-        work[start..end].copy_from_slice(key);
+        // a memcpy, as in deliver
+        cipher::copy(key, &mut work[start..end]);
     }
     Ok(end)
 }

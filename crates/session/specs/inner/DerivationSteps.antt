@@ -1,4 +1,4 @@
--- From no document: what the steps of a derivation answer. Assumes nothing.
+-- What the steps of a derivation answer. Assumes nothing.
 use Rattle.std.specs.Prelude.{ℕ, ◌≡◌, List, [], Option, None, Some, Result, MatchResult, take}
 use Rattle.std.specs.Iterator.{AlwaysYields}
 use Rattle.cipher.specs.Fips46.{des_encrypt}

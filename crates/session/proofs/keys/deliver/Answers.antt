@@ -1,8 +1,8 @@
 use Rattle.std.proofs.Common.{◌≤◌, ◌≡◌, ◌-◌, ◌+◌, ◌++◌, length, refl, arith}
 use lib.ListN.{length-append}
 use Prim.Native.Nat.{ℕ}
-use Rattle.answer.proofs.Outputs.{placed_over}
-use Rattle.answer.proofs.Pieces.{placed_next}
+use Rattle.answer.proofs.Outputs.{copied_over}
+use Rattle.answer.proofs.Pieces.{copied_next}
 use Rattle.session.proofs.DerivationSteps.{short_derives, delivery_derives}
 use Rattle.session.proofs.keys.deliver.Goals as goal
 
@@ -17,7 +17,8 @@ returns c =
     let x = a.first.now in
     let y = a.second.now in
     let o = a.out.now in
+    let g : length x ≤ length o = omega arith in
     let k : length y ≡ length x + length y - length x = omega arith in
     let m : length x + (length x + length y - length x) ≤ length o = omega arith in
     delivery_derives a.scheme (x ++ y) o _ _ (omega (arith, length-append {A = ℕ})) (omega (arith, length-append {A = ℕ}))
-    (placed_next x o _ (length x) _ refl m (placed_over x o _ (length x) refl c.copy_from_slice.ensures.after) y _ k c.copy_from_slice-2.ensures.after)
+    (copied_next x o _ (length x) _ refl m (copied_over x o _ g c.copy.ensures) y _ k c.copy-2.ensures)

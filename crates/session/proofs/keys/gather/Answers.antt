@@ -1,4 +1,4 @@
-use Rattle.std.proofs.Common.{◌≤◌, ◌+◌, length, refl, arith}
+use Rattle.std.proofs.Common.{◌≤◌, ◌+◌, length, arith}
 use Rattle.std.proofs.lemmas.Result.{err_from_is_err_and}
 use Rattle.std.proofs.lemmas.Iterator.{YieldsList}
 use Rattle.std.proofs.lemmas.Iterator.Consumers.{YieldsList-at}
@@ -16,8 +16,8 @@ returns-in_err-key-clause-gathered g c =
     rw (p.1, p.2) (λ ns y. let road : YieldsList g.I.Iterator.next_gives (λ x. x) c.args.nodes ns = record { runs = y.runs } in
     gather_lacks (YieldsList-at c.into_iter-node-iterator.ensures.into_iter_gives road) _ _ c.loop-node.yielded_by _ _ c.next.ensures.steps _ _ _ _ c.loop-node.invariant.gathered _ _ c.in-Some.is c.in_err-key.ensures)
 
-pub slice_bounds-copy_from_slice-end : goal.slice_bounds-copy_from_slice-end
-slice_bounds-copy_from_slice-end g c =
+pub slice_bounds-copy-end : goal.slice_bounds-copy-end
+slice_bounds-copy-end g c =
     let h = c.in-Some.ensures.goes.on c.loop-node.invariant.finite in
     let k = c.in_ok-key.ensures in
     let m = c.loop-node.invariant.room in
@@ -33,7 +33,7 @@ loop-node-preserved g c =
       can = h.0;
       finite = h.1;
       room = omega (arith, h.2, k.2, m, length_most);
-      gathered = gathered_copied _ _ _ _ _ c.loop-node.invariant.gathered _ _ _ _ k.0 k.1 refl r c.copy_from_slice.ensures.after;
+      gathered = gathered_copied _ _ _ _ _ c.loop-node.invariant.gathered _ _ _ k.0 k.1 r c.copy.ensures;
     }
 
 pub returns-clause-gathered : goal.returns-clause-gathered
