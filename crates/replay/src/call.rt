@@ -1,7 +1,7 @@
 // The stored answer of a case, and whether a call gives it.
 ghost use Rattle.std.specs.Prelude.{◌≤◌, length};
 
-use answer::Answer;
+use answer::{Answer, Refusal};
 use textfile::FieldError;
 
 // An answer, of a call or stored: its number, how many bytes it has, the scheme mark, and the one other value (transaction number, node, index, or 1
@@ -16,12 +16,21 @@ pub(crate) struct Given {
 
 impl From<Answer> for Given {
     fn from(answer: Answer) -> Given {
-        Given {
-            number: answer.number,
-            length: answer.length,
-            scheme: 0,
-            value: answer.transaction_number,
+        match answer {
+            Ok(accepted) => Given {
+                number: 0,
+                length: accepted.length,
+                scheme: 0,
+                value: accepted.transaction_number,
+            },
+            Err(refusal) => Given::from(refusal),
         }
+    }
+}
+
+impl From<Refusal> for Given {
+    fn from(refusal: Refusal) -> Given {
+        Given::said(refusal.number(), refusal.node())
     }
 }
 
@@ -35,6 +44,11 @@ impl Given {
             value,
         }
     }
+}
+
+// What a call gives whose answer says all.
+pub(crate) fn answered(answer: Answer) -> Option<Given> {
+    Some(Given::from(answer))
 }
 
 // What a call of a case has to give: an answer, and bytes.
@@ -71,9 +85,9 @@ impl<'a> Wanted<'a> {
         }
     }
 
-    // Whether a call gives this: with an output of the answer's size, of one byte more, of 4,608 bytes, and of one byte less, which is answered with
+    // Whether a call gives this, and not None, which no answer is: with an output of the answer's size, of one byte more, of 4,608 bytes, and of one byte less, which is answered with
     // 16. A call without an output is asked anew.
-    pub(crate) fn is_given<F: Fn(&mut [u8]) -> Given>(self, call: F) -> bool
+    pub(crate) fn is_given<F: Fn(&mut [u8]) -> Option<Given>>(self, call: F) -> bool
         requires { F.IsAlwaysCallable call }
     {
         let bytes = self.bytes;
@@ -82,13 +96,18 @@ impl<'a> Wanted<'a> {
             && in_room(&call, n, self.answer, bytes)
             && in_room(&call, n + 1, self.answer, bytes)
             && in_room(&call, 4608, self.answer, bytes)
-            && (n == 0 || in_room(&call, n - 1, Given::said(16, 0), &[]))
+            && (n == 0 || in_room(&call, n - 1, Given::from(Refusal::OutputTooSmall), &[]))
     }
 }
 
 // Whether a call with an output of `room` bytes gives this answer. The output lies within a page of bytes 0xA5, and the whole page has to be as it
 // was, but for the answer's bytes.
-fn in_room<F: Fn(&mut [u8]) -> Given>(call: &F, room: usize, answer: Given, bytes: &[u8]) -> bool
+fn in_room<F: Fn(&mut [u8]) -> Option<Given>>(
+    call: &F,
+    room: usize,
+    answer: Given,
+    bytes: &[u8],
+) -> bool
     requires may { F.IsAlwaysCallable call.now }
     requires fits { room ≤ 4608 }
     requires bytes_fit { length bytes.now ≤ 4608 }
@@ -96,5 +115,5 @@ fn in_room<F: Fn(&mut [u8]) -> Given>(call: &F, room: usize, answer: Given, byte
     let mut page = [0xA5u8; 4640];
     let mut right = [0xA5u8; 4640];
     right[16..16 + bytes.len()].copy_from_slice(bytes);
-    call(&mut page[16..16 + room]) == answer && page == right
+    call(&mut page[16..16 + room]) == Some(answer) && page == right
 }

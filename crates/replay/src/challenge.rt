@@ -1,5 +1,5 @@
 // Challenges and the AES session keys: a case's inputs, and the call. Field 1 says which challenge a case is about.
-use crate::call::{Given, Wanted};
+use crate::call::{Wanted, answered};
 use textfile::{FieldError, Fields};
 
 pub(crate) fn make(fields: &Fields) -> Result<bool, FieldError> {
@@ -12,30 +12,16 @@ pub(crate) fn make(fields: &Fields) -> Result<bool, FieldError> {
     let wanted = Wanted::new(fields.number(7)?, 0, 0, &bytes)?;
     Ok(match fields.get(1)? {
         "1a" => wanted.is_given(|out| {
-            Given::from(session::encrypt_challenge1a(scheme, &keys, &idm, &random, out))
+            answered(session::encrypt_challenge1a(scheme, &keys, &idm, &random, out))
         }),
         "1b" => wanted.is_given(|out| {
-            Given::from(session::encrypt_challenge1b(
-                scheme,
-                &keys,
-                &idm,
-                &challenge_3c,
-                &random,
-                out,
-            ))
+            answered(session::encrypt_challenge1b(scheme, &keys, &idm, &challenge_3c, &random, out))
         }),
         "2a" => wanted.is_given(|out| {
-            Given::from(session::encrypt_challenge2a(
-                scheme,
-                &keys,
-                &idm,
-                &challenge_3c,
-                &random,
-                out,
-            ))
+            answered(session::encrypt_challenge2a(scheme, &keys, &idm, &challenge_3c, &random, out))
         }),
         "2b" => wanted.is_given(|out| {
-            Given::from(session::encrypt_challenge2b(scheme, &keys, &idm, &random, out))
+            answered(session::encrypt_challenge2b(scheme, &keys, &idm, &random, out))
         }),
         _ => return Err(FieldError::Malformed),
     })
@@ -51,17 +37,10 @@ pub(crate) fn read(fields: &Fields) -> Result<bool, FieldError> {
     let wanted = Wanted::new(fields.number(7)?, 0, 0, &bytes)?;
     Ok(match fields.get(1)? {
         "1a" => wanted.is_given(|out| {
-            Given::from(session::decrypt_challenge1a(scheme, &keys, &idm, &block, out))
+            answered(session::decrypt_challenge1a(scheme, &keys, &idm, &block, out))
         }),
         "2a" => wanted.is_given(|out| {
-            Given::from(session::decrypt_challenge2a(
-                scheme,
-                &keys,
-                &idm,
-                &challenge_3c,
-                &block,
-                out,
-            ))
+            answered(session::decrypt_challenge2a(scheme, &keys, &idm, &challenge_3c, &block, out))
         }),
         _ => return Err(FieldError::Malformed),
     })
@@ -77,7 +56,7 @@ pub(crate) fn check(fields: &Fields) -> Result<bool, FieldError> {
     let wanted = Wanted::new(fields.number(8)?, 0, 0, &[])?;
     Ok(match fields.get(1)? {
         "1b" => wanted.is_given(|_| {
-            Given::from(session::verify_challenge1b(
+            answered(session::verify_challenge1b(
                 scheme,
                 &keys,
                 &idm,
@@ -87,7 +66,7 @@ pub(crate) fn check(fields: &Fields) -> Result<bool, FieldError> {
             ))
         }),
         "2b" => wanted.is_given(|_| {
-            Given::from(session::verify_challenge2b(scheme, &keys, &idm, &random, &block))
+            answered(session::verify_challenge2b(scheme, &keys, &idm, &random, &block))
         }),
         _ => return Err(FieldError::Malformed),
     })
@@ -100,5 +79,5 @@ pub(crate) fn session_keys(fields: &Fields) -> Result<bool, FieldError> {
     let random = fields.bytes(3)?;
     let bytes = fields.bytes(5)?;
     let wanted = Wanted::new(fields.number(4)?, 0, 0, &bytes)?;
-    Ok(wanted.is_given(|out| Given::from(session::derive_secure_session_keys(&random, out))))
+    Ok(wanted.is_given(|out| answered(session::derive_secure_session_keys(&random, out))))
 }

@@ -17,17 +17,20 @@ pub(crate) fn keys(fields: &Fields) -> Result<bool, FieldError> {
     )?;
     Ok(wanted.is_given(|out| {
         let derived = session::derive_auth_keys(mark, &keys, &areas, &services, &individual, out);
-        Given {
-            number: derived.answer.number,
-            length: derived.answer.length,
-            scheme: derived.scheme,
-            value: derived.node,
-        }
+        Some(match derived {
+            Ok(derived) => Given {
+                number: 0,
+                length: derived.length,
+                scheme: derived.scheme.mark(),
+                value: 0,
+            },
+            Err(refusal) => Given::from(refusal),
+        })
     }))
 }
 
 pub(crate) fn key_free(fields: &Fields) -> Result<bool, FieldError> {
     let service = fields.number(1)?;
     let wanted = Wanted::new(0, fields.number(2)?, 0, &[])?;
-    Ok(wanted.is_given(|_| Given::said(0, u16::from(session::is_key_free_service(service)))))
+    Ok(wanted.is_given(|_| Some(Given::said(0, u16::from(session::is_key_free_service(service))))))
 }

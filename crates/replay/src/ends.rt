@@ -1,8 +1,8 @@
-// A reader and a card with the same keys, through every call: each answers 0, and both get the same.
+// A reader and a card with the same keys, through every call: each is accepted, and both get the same.
 ghost use Rattle.std.specs.Prelude.{◌≤◌};
 
 use crate::note::Checks;
-use answer::Answer;
+use answer::{Answer, Refusal, Scheme};
 use session::DerivedAuthKeys;
 use std::io;
 
@@ -11,39 +11,47 @@ fn front(bytes: &[u8], n: usize) -> &[u8] {
     bytes.get(..n).unwrap_or(&[])
 }
 
-fn block(scheme: u8) -> usize {
-    if scheme == 1 { 8 } else { 16 }
+fn block(scheme: Scheme) -> usize {
+    match scheme {
+        Scheme::Des => 8,
+        Scheme::Aes128 => 16,
+    }
 }
 
-fn key_size(scheme: u8) -> usize {
-    if scheme == 1 { 16 } else { 32 }
+fn key_size(scheme: Scheme) -> usize {
+    match scheme {
+        Scheme::Des => 16,
+        Scheme::Aes128 => 32,
+    }
 }
 
-// Whether an answer is 0 with n bytes and no number.
+// Whether an answer is an acceptance with n bytes and no number.
 fn gives(answer: Answer, n: usize) -> bool {
     opens(answer, n, 0)
 }
 
 fn opens(answer: Answer, n: usize, number: u16) -> bool {
-    answer.number == 0 && usize::from(answer.length) == n && answer.transaction_number == number
+    answer.is_ok_and(|accepted| {
+        usize::from(accepted.length) == n && accepted.transaction_number == number
+    })
 }
 
 pub(crate) fn with_des<R: Print>(checks: &mut Checks<R>, mark: u8) -> io::Result<()> {
     let keys =
         b"\xFF\xFF\x01system key 12345\x00\x00\x01area key 1234567\x08\x10\x01service key 1234";
-    run(checks, mark, 1, keys)
+    run(checks, mark, Scheme::Des, keys)
 }
 
 pub(crate) fn with_aes<R: Print>(checks: &mut Checks<R>, mark: u8) -> io::Result<()> {
     run(
         checks,
         mark,
-        2,
+        Scheme::Aes128,
         b"\x00\x00\x02area key 1234567\x08\x10\x02service key 1234",
     )
 }
 
-fn run<R: Print>(checks: &mut Checks<R>, mark: u8, scheme: u8, keys: &[u8]) -> io::Result<()> {
+fn run<R: Print>(checks: &mut Checks<R>, mark: u8, scheme: Scheme, keys: &[u8]) -> io::Result<()> {
     let n = key_size(scheme);
     let mut reader = [0u8; 32];
     let mut card = [1u8; 32];
@@ -56,28 +64,27 @@ fn run<R: Print>(checks: &mut Checks<R>, mark: u8, scheme: u8, keys: &[u8]) -> i
 
 fn talk<R: Print>(
     checks: &mut Checks<R>,
-    scheme: u8,
+    scheme: Scheme,
     reader: &[u8],
     card: &[u8],
 ) -> io::Result<()> {
     checks.holds(reader == card)?;
     way_out(checks, scheme, reader, card)?;
     let random = return_way(checks, scheme, reader, card)?;
-    if scheme == 1 {
-        exchange(checks, 1, b"DES key ", b"DES key ")
-    } else {
-        with_session_keys(checks, &random)
+    match scheme {
+        Scheme::Des => exchange(checks, scheme, b"DES key ", b"DES key "),
+        Scheme::Aes128 => with_session_keys(checks, &random),
     }
 }
 
-fn is_derived(derived: DerivedAuthKeys, scheme: u8, n: usize) -> bool {
-    gives(derived.answer, n) && derived.node == 0 && derived.scheme == scheme
+fn is_derived(derived: Result<DerivedAuthKeys, Refusal>, scheme: Scheme, n: usize) -> bool {
+    derived.is_ok_and(|keys| usize::from(keys.length) == n && keys.scheme == scheme)
 }
 
 // 1A from the reader, 1B from the card: five checks.
 fn way_out<R: Print>(
     checks: &mut Checks<R>,
-    scheme: u8,
+    scheme: Scheme,
     reader: &[u8],
     card: &[u8],
 ) -> io::Result<()> {
@@ -86,15 +93,21 @@ fn way_out<R: Print>(
     let random = b"the reader's one";
     let n = block(scheme);
     let mut sent = [0u8; 16];
-    let made = session::encrypt_challenge1a(scheme, reader, idm, front(random, n), &mut sent);
+    let made = session::encrypt_challenge1a(
+        scheme.mark(),
+        reader,
+        idm,
+        front(random, n),
+        &mut sent,
+    );
     checks.holds(gives(made, n))?;
     let mut got = [0u8; 16];
-    let read = session::decrypt_challenge1a(scheme, card, idm, front(&sent, n), &mut got);
+    let read = session::decrypt_challenge1a(scheme.mark(), card, idm, front(&sent, n), &mut got);
     checks.holds(gives(read, n))?;
     checks.holds(front(&got, n) == front(random, n))?;
     let mut back = [0u8; 16];
     let proof = session::encrypt_challenge1b(
-        scheme,
+        scheme.mark(),
         card,
         idm,
         challenge_3c,
@@ -103,7 +116,7 @@ fn way_out<R: Print>(
     );
     checks.holds(gives(proof, n))?;
     let checked = session::verify_challenge1b(
-        scheme,
+        scheme.mark(),
         reader,
         idm,
         challenge_3c,
@@ -116,7 +129,7 @@ fn way_out<R: Print>(
 // 2A from the card, 2B from the reader: five checks. Answers the random 2 that the reader read.
 fn return_way<R: Print>(
     checks: &mut Checks<R>,
-    scheme: u8,
+    scheme: Scheme,
     reader: &[u8],
     card: &[u8],
 ) -> io::Result<[u8; 16]> {
@@ -126,7 +139,7 @@ fn return_way<R: Print>(
     let n = block(scheme);
     let mut sent = [0u8; 16];
     let made = session::encrypt_challenge2a(
-        scheme,
+        scheme.mark(),
         card,
         idm,
         challenge_3c,
@@ -136,7 +149,7 @@ fn return_way<R: Print>(
     checks.holds(gives(made, n))?;
     let mut got = [0u8; 16];
     let read = session::decrypt_challenge2a(
-        scheme,
+        scheme.mark(),
         reader,
         idm,
         challenge_3c,
@@ -146,9 +159,15 @@ fn return_way<R: Print>(
     checks.holds(gives(read, n))?;
     checks.holds(front(&got, n) == front(random, n))?;
     let mut back = [0u8; 16];
-    let proof = session::encrypt_challenge2b(scheme, reader, idm, front(&got, n), &mut back);
+    let proof = session::encrypt_challenge2b(scheme.mark(), reader, idm, front(&got, n), &mut back);
     checks.holds(gives(proof, n))?;
-    let checked = session::verify_challenge2b(scheme, card, idm, front(random, n), front(&back, n));
+    let checked = session::verify_challenge2b(
+        scheme.mark(),
+        card,
+        idm,
+        front(random, n),
+        front(&back, n),
+    );
     checks.holds(gives(checked, 0))?;
     Ok(got)
 }
@@ -162,23 +181,29 @@ fn with_session_keys<R: Print>(checks: &mut Checks<R>, read: &[u8]) -> io::Resul
     let at_card = session::derive_secure_session_keys(b"the card's other", &mut card);
     checks.holds(gives(at_card, 32))?;
     checks.holds(reader == card)?;
-    exchange(checks, 2, &reader, &card)
+    exchange(checks, Scheme::Aes128, &reader, &card)
 }
 
 // The sealed size of 16 bytes, and that of their response frame.
-fn sealed_size(scheme: u8) -> usize {
-    if scheme == 1 { 32 } else { 26 }
+fn sealed_size(scheme: Scheme) -> usize {
+    match scheme {
+        Scheme::Des => 32,
+        Scheme::Aes128 => 26,
+    }
 }
 
-fn frame_size(scheme: u8) -> usize
+fn frame_size(scheme: Scheme) -> usize
     ensures { (2 ≤ result) × (result ≤ 64) }
 {
-    if scheme == 1 { 34 } else { 28 }
+    match scheme {
+        Scheme::Des => 34,
+        Scheme::Aes128 => 28,
+    }
 }
 
 fn exchange<R: Print>(
     checks: &mut Checks<R>,
-    scheme: u8,
+    scheme: Scheme,
     reader: &[u8],
     card: &[u8],
 ) -> io::Result<()> {
@@ -189,7 +214,7 @@ fn exchange<R: Print>(
 // A command from the reader, opened by the card: three checks.
 fn command<R: Print>(
     checks: &mut Checks<R>,
-    scheme: u8,
+    scheme: Scheme,
     reader: &[u8],
     card: &[u8],
 ) -> io::Result<()> {
@@ -197,10 +222,10 @@ fn command<R: Print>(
     let n = sealed_size(scheme);
     let payload = b"a command, whole";
     let mut sent = [0u8; 64];
-    let sealed = frame::encrypt_command(scheme, 0x42, 1, id, reader, payload, &mut sent);
+    let sealed = frame::encrypt_command(scheme.mark(), 0x42, 1, id, reader, payload, &mut sent);
     checks.holds(gives(sealed, n))?;
     let mut got = [0u8; 16];
-    let opened = frame::decrypt_response(scheme, 0x42, id, card, front(&sent, n), &mut got);
+    let opened = frame::decrypt_response(scheme.mark(), 0x42, id, card, front(&sent, n), &mut got);
     checks.holds(opens(opened, 16, 1))?;
     checks.holds(got == *payload)
 }
@@ -208,7 +233,7 @@ fn command<R: Print>(
 // A response frame from the card, opened by the reader: five checks.
 fn reply<R: Print>(
     checks: &mut Checks<R>,
-    scheme: u8,
+    scheme: Scheme,
     reader: &[u8],
     card: &[u8],
 ) -> io::Result<()> {
@@ -216,12 +241,20 @@ fn reply<R: Print>(
     let n = frame_size(scheme);
     let payload = b"the card's reply";
     let mut sent = [0u8; 64];
-    let sealed = frame::build_secure_response_frame(scheme, 0x43, 2, id, card, payload, &mut sent);
+    let sealed = frame::build_secure_response_frame(
+        scheme.mark(),
+        0x43,
+        2,
+        id,
+        card,
+        payload,
+        &mut sent,
+    );
     checks.holds(gives(sealed, n))?;
     checks.holds(usize::from(sent[0]) == n)?;
     checks.holds(sent[1] == 0x43)?;
     let mut got = [0u8; 16];
-    let opened = frame::decrypt_response(scheme, 0x43, id, reader, &sent[2..n], &mut got);
+    let opened = frame::decrypt_response(scheme.mark(), 0x43, id, reader, &sent[2..n], &mut got);
     checks.holds(opens(opened, 16, 2))?;
     checks.holds(got == *payload)
 }

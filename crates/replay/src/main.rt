@@ -16,6 +16,7 @@ mod note;
 mod sealed;
 mod steps;
 
+use answer::Scheme;
 use case::Kind;
 use note::Checks;
 use std::io;
@@ -67,8 +68,8 @@ fn own_runs(rt: &impl Print) -> io::Result<Tally> {
     textfile::print_row(rt, many.tally, "# Session: 65,537 responses turned away\n")?;
     let mut steps = Checks::new(rt, "the session's corners");
     corners::stepping(&mut steps)?;
-    corners::responses(&mut steps, 1)?;
-    corners::responses(&mut steps, 2)?;
+    corners::responses(&mut steps, Scheme::Des)?;
+    corners::responses(&mut steps, Scheme::Aes128)?;
     textfile::print_row(
         rt,
         steps.tally,

@@ -1,5 +1,6 @@
 // The operations of `frame`: a case's inputs, and the calls.
-use crate::call::{Given, Wanted};
+use crate::call::{Given, Wanted, answered};
+use answer::Scheme;
 use textfile::{FieldError, Fields};
 
 // A sealed command, its size as it was foretold, and the command sealed by the scheme's own operation.
@@ -14,10 +15,10 @@ pub(crate) fn seal(fields: &Fields) -> Result<bool, FieldError> {
     let wanted = Wanted::new(fields.number(7)?, 0, 0, &bytes)?;
     let forecast = Given::from(frame::forecast(scheme, payload.len()));
     let both = wanted.is_given(|out| {
-        Given::from(frame::encrypt_command(scheme, code, number, &id, &credentials, &payload, out))
+        answered(frame::encrypt_command(scheme, code, number, &id, &credentials, &payload, out))
     });
     let own = wanted.is_given(|out| {
-        Given::from(if scheme == 1 {
+        answered(if scheme == Scheme::Des.mark() {
             frame::encrypt_secure_request_des(code, number, &id, &credentials, &payload, out)
         } else {
             frame::encrypt_secure_request_v2_aes128(code, number, &id, &credentials, &payload, out)
@@ -37,7 +38,7 @@ pub(crate) fn frame(fields: &Fields) -> Result<bool, FieldError> {
     let bytes = fields.bytes(8)?;
     let wanted = Wanted::new(fields.number(7)?, 0, 0, &bytes)?;
     let both = wanted.is_given(|out| {
-        Given::from(frame::build_secure_response_frame(
+        answered(frame::build_secure_response_frame(
             scheme,
             code,
             number,
@@ -48,7 +49,7 @@ pub(crate) fn frame(fields: &Fields) -> Result<bool, FieldError> {
         ))
     });
     let own = wanted.is_given(|out| {
-        Given::from(if scheme == 1 {
+        answered(if scheme == Scheme::Des.mark() {
             frame::build_secure_response_frame_des(code, number, &id, &credentials, &payload, out)
         } else {
             frame::build_secure_response_frame_v2_aes128(
@@ -74,10 +75,10 @@ pub(crate) fn open(fields: &Fields) -> Result<bool, FieldError> {
     let bytes = fields.bytes(8)?;
     let wanted = Wanted::new(fields.number(6)?, fields.number(7)?, 0, &bytes)?;
     let both = wanted.is_given(|out| {
-        Given::from(frame::decrypt_response(scheme, code, &id, &credentials, &sealed, out))
+        answered(frame::decrypt_response(scheme, code, &id, &credentials, &sealed, out))
     });
     let own = wanted.is_given(|out| {
-        Given::from(if scheme == 1 {
+        answered(if scheme == Scheme::Des.mark() {
             frame::decrypt_secure_response_des(code, &id, &credentials, &sealed, out)
         } else {
             frame::decrypt_secure_response_v2_aes128(code, &id, &credentials, &sealed, out)
@@ -91,9 +92,7 @@ pub(crate) fn auth2_seal(fields: &Fields) -> Result<bool, FieldError> {
     let payload = fields.bytes(2)?;
     let bytes = fields.bytes(4)?;
     let wanted = Wanted::new(fields.number(3)?, 0, 0, &bytes)?;
-    Ok(wanted.is_given(|out| Given::from(frame::encrypt_authentication2_payload(
-        &key, &payload, out,
-    ))))
+    Ok(wanted.is_given(|out| answered(frame::encrypt_authentication2_payload(&key, &payload, out))))
 }
 
 pub(crate) fn auth2_open_des(fields: &Fields) -> Result<bool, FieldError> {
@@ -101,9 +100,7 @@ pub(crate) fn auth2_open_des(fields: &Fields) -> Result<bool, FieldError> {
     let sealed = fields.bytes(2)?;
     let bytes = fields.bytes(4)?;
     let wanted = Wanted::new(fields.number(3)?, 0, 0, &bytes)?;
-    Ok(wanted.is_given(|out| Given::from(frame::decrypt_authentication2_payload(
-        &key, &sealed, out,
-    ))))
+    Ok(wanted.is_given(|out| answered(frame::decrypt_authentication2_payload(&key, &sealed, out))))
 }
 
 pub(crate) fn auth2_open_aes(fields: &Fields) -> Result<bool, FieldError> {
@@ -113,12 +110,7 @@ pub(crate) fn auth2_open_aes(fields: &Fields) -> Result<bool, FieldError> {
     let bytes = fields.bytes(6)?;
     let wanted = Wanted::new(fields.number(4)?, fields.number(5)?, 0, &bytes)?;
     Ok(wanted.is_given(|out| {
-        Given::from(frame::decrypt_authentication2_payload_v2_aes128(
-            &id,
-            &credentials,
-            &sealed,
-            out,
-        ))
+        answered(frame::decrypt_authentication2_payload_v2_aes128(&id, &credentials, &sealed, out))
     }))
 }
 
@@ -127,7 +119,5 @@ pub(crate) fn package(fields: &Fields) -> Result<bool, FieldError> {
     let plain = fields.bytes(2)?;
     let bytes = fields.bytes(4)?;
     let wanted = Wanted::new(fields.number(3)?, 0, 0, &bytes)?;
-    Ok(wanted.is_given(|out| Given::from(frame::generate_registration_package_des(
-        &key, &plain, out,
-    ))))
+    Ok(wanted.is_given(|out| answered(frame::generate_registration_package_des(&key, &plain, out))))
 }
