@@ -3,8 +3,7 @@ use mathlib.Core.Path.{◌≡◌, ◌∙◌}
 use mathlib.Core.List.{List}
 use Prim.Native.Nat.{ℕ, ◌<◌}
 use native.Mathlib.Omega.{arith}
-use Rattle.answer.specs.declared.answer.Answer.{Answer}
-use Rattle.answer.specs.Outcome.{Outcome, Meets}
+use Rattle.answer.specs.Outcome.{Answer, answer_number, answer_length, answer_transaction, Outcome, Meets}
 use Rattle.frame.specs.Forecast.{forecasting}
 use Rattle.felica_secure.specs.Packed.{packed, packed_number, packed_mark, packed_length, packed_transaction, Returns, ReturnsDerived}
 use Rattle.session.specs.Derivation.{Derived, Derives}
@@ -29,12 +28,12 @@ module _ (number mark length transaction : ℕ) (hn : number < 0x100) (hm : mark
   packed_transaction_lem = omega arith
 
 -- an answer that meets an outcome, packed
-pub meets_returns : (o : Outcome) (a : Answer) (r : ℕ) (before after : List ℕ) → Meets o a before after → r ≡ packed a.number 0 a.length a.transaction_number → Returns o r before after
+pub meets_returns : (o : Outcome) (a : Answer) (r : ℕ) (before after : List ℕ) → Meets o a before after → r ≡ packed (answer_number a) 0 (answer_length a) (answer_transaction a) → Returns o r before after
 meets_returns o a r before after m e = record { answer = e ∙ rw (m.number, m.length_is, m.transaction); output = m.output }
 
 -- a forecast, packed
-pub forecast_packed : (scheme n : ℕ) (a : Answer) (r : ℕ) → (a.number ≡ (forecasting scheme n).number) × (a.length ≡ (forecasting scheme n).size) × (a.transaction_number ≡ 0)
-    → r ≡ packed a.number 0 a.length a.transaction_number → r ≡ packed (forecasting scheme n).number 0 (forecasting scheme n).size 0
+pub forecast_packed : (scheme n : ℕ) (a : Answer) (r : ℕ) → (answer_number a ≡ (forecasting scheme n).number) × (answer_length a ≡ (forecasting scheme n).size) × (answer_transaction a ≡ 0)
+    → r ≡ packed (answer_number a) 0 (answer_length a) (answer_transaction a) → r ≡ packed (forecasting scheme n).number 0 (forecasting scheme n).size 0
 forecast_packed scheme n a r f e = e ∙ rw (f.0, f.1, f.2)
 
 -- a derivation's answer, packed

@@ -1,5 +1,6 @@
 // Answers as C gets them: one number of 64 bits (specs/Packed).
 ghost use Rattle.std.specs.Prelude.{◌≡◌};
+ghost use Rattle.answer.specs.Outcome.{answer_number, answer_length, answer_transaction};
 ghost use Rattle.felica_secure.specs.Packed.{packed};
 
 use answer::Answer;
@@ -8,12 +9,17 @@ use answer::Answer;
 pub(crate) fn pack_all(number: u8, scheme: u8, length: u16, value: u16) -> u64
     ensures { result ≡ packed number scheme length value }
 {
-    number as u64 + scheme as u64 * 256 + length as u64 * 65536 + value as u64 * 4294967296
+    let [low, high] = length.to_le_bytes();
+    let [value_low, value_high] = value.to_le_bytes();
+    u64::from_le_bytes([number, scheme, low, high, value_low, value_high, 0, 0])
 }
 
 // An answer as C gets it.
 pub(crate) fn pack(answer: Answer) -> u64
-    ensures { result ≡ packed answer.number 0 answer.length answer.transaction_number }
+    ensures { result ≡ packed (answer_number answer) 0 (answer_length answer) (answer_transaction answer) }
 {
-    pack_all(answer.number, 0, answer.length, answer.transaction_number)
+    match answer {
+        Ok(accepted) => pack_all(0, 0, accepted.length, accepted.transaction_number),
+        Err(refusal) => pack_all(refusal.number(), 0, 0, 0),
+    }
 }
