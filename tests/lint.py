@@ -8,7 +8,7 @@ function asks nothing of its caller and promises something, that a symbol in a c
 that a test can fail, and that no crate, edit or table stands where the gate does not look.
 tests/lint_test.py plants a fault for each.
 
-    public-requires   a public or exported function has a `requires`
+    public-requires   a public or exported function has a `requires`, other than that a closure it is given may be called
     public-ensures    a public or exported function of a library crate has no `ensures`
     own-symbol        a name of the kit is given another meaning
     hidden-name       a name of the code hides what a contract brings in
@@ -265,6 +265,10 @@ class Function:
         inside = self.head[:end_of(self.head, self.head.find("("), "()")]
         return re.findall(r"[(,]\s*(?:mut\s+)?(\w+)\s*:(?!:)", inside)
 
+    def asks(self):
+        """Has it a `requires`? That a closure may be called is none: a closure says itself what it asks."""
+        return re.search(r"\brequires\b\*?\s*(?:[\w«»]+\s*)?\{(?!\s*\w+\.IsAlwaysCallable \w+\s*\})", self.head)
+
     def has(self, clause):
         """Has it such a clause? It may have a name, as `requires low { .. }`, and a star."""
         return re.search(r"\b%s\b\*?\s*(?:[\w«»]+\s*)?\{" % clause, self.head)
@@ -347,11 +351,11 @@ class Repository:
 
 
 def contracts(repo):
-    """A public or exported function has no requires, and has an ensures. Programs, and crates that read and write for them, may go without the second."""
+    """A public or exported function has no requires but that a closure may be called, and has an ensures. Programs, and crates that read and write for them, may go without the second."""
     libraries = repo.libraries()
     for f in repo.rt:
         for g in functions(f.text):
-            if g.public and g.has("requires"):
+            if g.public and g.asks():
                 repo.fault("public-requires", f.path, g.line, "%s has a requires" % g.name)
             if g.public and f.crate in libraries and not g.has("ensures"):
                 repo.fault("public-ensures", f.path, g.line, "%s has no ensures" % g.name)

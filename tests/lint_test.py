@@ -62,6 +62,9 @@ FAULTS = [
     ("public-requires", add(CODE, "\npub fn f(x: u8) -> u8\n    ghost top: { ℕ }\n    requires { x < top }\n    ensures { result ≡ x }\n{\n    x\n}\n")),
     ("public-requires", add(CODE, "\npub trait T {\n    fn f(self) -> u8\n        requires { self.x < 3 };\n}\n")),
     ("public-requires", add(CODE, "\nimpl S {\n    pub fn f(self) -> u8\n        requires { self.x < 3 }\n        ensures { result ≡ 1 }\n    {\n        1\n    }\n}\n")),
+    # a closure that may be called, and more
+    ("public-requires", add(CODE, "\npub fn f<F: FnMut(u8)>(f: F, x: u8) -> u8\n    requires may { F.IsAlwaysCallable f }\n    requires low { x < 3 }\n    ensures { result ≡ x }\n{\n    x\n}\n")),
+    ("public-requires", add(CODE, "\npub fn f<F: FnMut(u8)>(f: F, x: u8) -> u8\n    requires { F.IsAlwaysCallable f × (x < 3) }\n    ensures { result ≡ x }\n{\n    x\n}\n")),
     # the body opens on the first line; on a line of its own; after parameters over several lines, with a function behind it that has an ensures
     ("public-ensures", add(CODE, EXPORT + " {\n    x\n}\n")),
     ("public-ensures", add(CODE, "\npub fn f(x: u8) -> u8 {\n    x\n}\n")),
@@ -177,6 +180,7 @@ FAULTS = [
 
 # what is no fault
 FINE = [
+    add(CODE, "\npub fn f<F: FnMut(u8)>(f: F, x: u8) -> u8\n    requires { F.IsAlwaysCallable f }\n    ensures { result ≡ x }\n{\n    x\n}\n"),
     add(CODE, "\npub fn f(x: [[u8; 6]; 2], y: &mut [u8]) -> [u8; 6]\n    ensures { Meets {A = ℕ} result x }\n{\n    x[0]\n}\n"),
     add(CODE, "\npub(crate) fn f(x: u8) -> u8\n    requires { x < 3 }\n{\n    x\n}\n\nfn g(x: u8) -> u8 {\n    x\n}\n"),
     add(CODE, "\n// pub fn f(x: u8) {}\nghost use %s.{Planted};\n\nfn f(x: u8) -> u8\n    ensures { Planted result x }\n{\n    x\n}\n" % INNER),

@@ -76,14 +76,42 @@ impl Refusal {
 
 impl fmt::Display for Refusal {
     fn fmt<W: fmt::Write>(&self, f: &mut fmt::Formatter<W>) -> fmt::Result {
-        let number = self.number();
-        let node = self.node();
-        if number == 4 {
-            write!(f, "refused (4): node {node} has no key")
-        } else {
-            write!(f, "refused ({number})")
-        }
+        f.write_str(match self {
+            Refusal::TooManyEntries => "too many keys, areas, services or session nodes",
+            Refusal::SameKeyTwice => "the same node and algorithm twice in the keys",
+            Refusal::NoNodes => "no area and no service",
+            Refusal::KeyMissing(node) => return write!(f, "node {node:04x} has no key"),
+            Refusal::OtherAlgorithm => "a node has a key of the other algorithm only",
+            Refusal::IndividualKeyWithDes => "an individual key with DES",
+            Refusal::DesWithoutArea => "DES without an area",
+            Refusal::DesWithoutKeyedService => "DES without a service that bears a key",
+            Refusal::NumberExhausted => "the transaction number is 0xFFFF",
+            Refusal::NotWholeBlocks => "not whole blocks of 8 bytes, or an empty package",
+            Refusal::TooShort => "too short",
+            Refusal::TooLong => "too long",
+            Refusal::MacDiffers => "the MAC, or the challenge that is checked, differs",
+            Refusal::IdDiffers => "the transaction ID differs",
+            Refusal::NumberNotAbove => "the number is not above the session's",
+            Refusal::OutputTooSmall => "the output is too small",
+            Refusal::BadMarkOrLength => "an unknown mark, or a wrong fixed length",
+        })
     }
 }
 
 impl Error for Refusal {}
+
+#[cfg(test)]
+mod tests {
+    use super::*;
+    use std::test::Fail;
+
+    #[test]
+    fn says_what_refused(rt: HostRuntime) -> Result<(), Fail> {
+        let alloc = rt.alloc();
+        let missing = format!(in alloc; "{}", Refusal::KeyMissing(0x1008))?;
+        assert_eq!(rt; missing.as_str(), "node 1008 has no key");
+        let differs = format!(in alloc; "{}", Refusal::MacDiffers)?;
+        assert_eq!(rt; differs.as_str(), "the MAC, or the challenge that is checked, differs");
+        Ok(())
+    }
+}

@@ -1,9 +1,5 @@
--- From no document: how a byte string of any length stands for a block, and how a result is written over a byte string. Assumes nothing.
-use Rattle.std.specs.Prelude.{ℕ, Bool, true, false, List, ◌++◌, length, take, drop, replicate}
-
--- the first n bytes of s, and zeros where it is shorter
-abbrev pub fit : ℕ → List ℕ → List ℕ
-fit n s = take n s ++ drop (length s) (replicate n 0)
+-- From no document: how a result is written over a byte string, and a yes as C gets it. Assumes nothing.
+use Rattle.std.specs.Prelude.{ℕ, Bool, true, false, List, ◌++◌, length, take, drop}
 
 -- s with b over its front, as far as both reach
 abbrev pub over : List ℕ → List ℕ → List ℕ

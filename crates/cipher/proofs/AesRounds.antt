@@ -1,100 +1,79 @@
 -- The rounds of the cipher on four words, from what the calls in a turn of the code ensure. Assumes nothing.
-use mathlib.Core.Path.{◌≡◌, refl, sym, ap, ap₂, ◌∙◌}
-use mathlib.Core.List.{List, [], ◌∷◌, map}
-use Prim.Native.Nat.{ℕ, ◌+◌, ◌-◌, ◌*◌, ◌≤◌, ◌<◌}
+use mathlib.Core.Path.{◌≡◌, sym, ap, ap₂, ◌∙◌}
+use mathlib.Core.List.{List, [], ◌∷◌, ◌++◌, reverse}
+use Prim.Native.Nat.{ℕ, zero, suc, ◌+◌, ◌-◌, ◌*◌, ◌<◌}
 use native.Mathlib.Numerals.{add-one}
 use native.Mathlib.Omega.{arith}
-use lib.ListN.{length, get_or}
-use Rattle.cipher.specs.Bytes.{tab, ◌⊕◌, word_bytes, words_bytes}
-use Rattle.cipher.specs.Fips197.{s_box, sub_bytes, cell, shift_rows, mixed, mix_columns, add_round_key, round_key, rounds, cipher, inv_s_box, inv_sub_bytes, inv_shift_rows, inv_mix_columns, inv_rounds, inv_cipher}
-use Rattle.cipher.specs.inner.AesTables.{diagonal, mixed_column}
-use Rattle.cipher.proofs.Words.{words_four, words_of, words_xor}
+use lib.ListN.{length, take, drop, get_or, length-drop}
+use lib.Seq.{take_at, drop-append-add, length-take-le, get_or-take, get_or-drop}
+use Rattle.std.proofs.lemmas.List.{get_or-reverse}
+use Rattle.std.specs.List.{flat_map}
+use Rattle.cipher.specs.declared.aes.Columns.{Columns}
+use Rattle.cipher.specs.Bytes.{word_bytes, words_bytes}
+use Rattle.cipher.specs.Fips197.{sub_bytes, shift_rows, mix_columns, add_round_key, round_key, rounds, cipher, inv_sub_bytes, inv_shift_rows, inv_mix_columns, inv_rounds, inv_cipher}
+use Rattle.cipher.specs.inner.AesTables.{bytes_of}
+use Rattle.cipher.proofs.Words.{words_of, words_length}
 
--- the words m to m + 3
-abbrev pub key_at : List ℕ → ℕ → List ℕ
-key_at ws m = get_or ws m 0 ∷ get_or ws (m + 1) 0 ∷ get_or ws (m + 2) 0 ∷ get_or ws (m + 3) 0 ∷ []
+-- a state made of four words, each by F from a column of l
+pub each_made : (F : List ℕ → List ℕ) (e f g h : ℕ) {r l : List (List ℕ)} → r ≡ l → word_bytes e ≡ F (get_or r 0 []) → word_bytes f ≡ F (get_or r 1 [])
+    → word_bytes g ≡ F (get_or r 2 []) → word_bytes h ≡ F (get_or r 3 [])
+    → words_bytes (e ∷ f ∷ g ∷ h ∷ []) ≡ F (get_or l 0 []) ++ (F (get_or l 1 []) ++ (F (get_or l 2 []) ++ (F (get_or l 3 []) ++ [])))
+each_made F e f g h x hp hq hr hs = rw (← x) (words_of e f g h hp hq hr hs)
 
--- a round key is four words of the schedule
-pub round_key_lem : (ws : List ℕ) (n m : ℕ) → m ≡ 4 * n → m + 4 ≤ length ws → round_key (words_bytes ws) n ≡ words_bytes (key_at ws m)
+-- a round key of a schedule is 16 of its bytes
+pub round_key_lem : (ks : List Columns) (n : ℕ) (d : Columns) → n < length ks → round_key (flat_map bytes_of ks) n ≡ bytes_of (get_or ks n d)
 unfolding round_key
-round_key_lem ws n m e h =
-    let k : 16 * n ≡ 4 * m = omega arith in
-    rw k (words_four m ws h)
+round_key_lem [] n d h = absurd (omega arith)
+round_key_lem (k ∷ ks) zero d h = take_at (bytes_of k) (flat_map bytes_of ks) 16 (words_length (k.a ∷ k.b ∷ k.c ∷ k.d ∷ []))
+round_key_lem (k ∷ ks) (suc n) d h =
+    let l : length (bytes_of k) ≡ 16 = words_length (k.a ∷ k.b ∷ k.c ∷ k.d ∷ []) in
+    let e : 16 * suc n ≡ length (bytes_of k) + 16 * n = omega arith in
+    rw e (ap (take 16) (drop-append-add (bytes_of k) (flat_map bytes_of ks) (16 * n)) ∙ round_key_lem ks n d (omega arith))
 
-pub add_key : (ws x s : List ℕ) (n m : ℕ) → m ≡ 4 * n → m + 4 ≤ length ws → words_bytes x ≡ s
-    → words_bytes (x ⊕ key_at ws m) ≡ add_round_key s (round_key (words_bytes ws) n)
-unfolding add_round_key
-add_key ws x s n m e h p = words_xor x (key_at ws m) ∙ ap₂ ◌⊕◌ p (sym (round_key_lem ws n m e h))
+-- the round keys of a schedule as the code reads them: by their number, and from 1 to 9 by a slice
+module _ (ks : List Columns) {w : List ℕ} (e : flat_map bytes_of ks ≡ w) (l : length ks ≡ 11) where
+  pub key_at : (n : ℕ) (d : Columns) → n < 11 → bytes_of (get_or ks n d) ≡ round_key w n
+  key_at n d h = sym (round_key_lem ks n d (omega arith)) ∙ ap (λ (t : List ℕ). round_key t n) e
 
-module _ (a b c d e f g h : ℕ) where
-  -- SubBytes and ShiftRows, a column at a time
-  pub shifted_made : word_bytes e ≡ map s_box (diagonal a b c d) → word_bytes f ≡ map s_box (diagonal b c d a)
-      → word_bytes g ≡ map s_box (diagonal c d a b) → word_bytes h ≡ map s_box (diagonal d a b c)
-      → words_bytes (e ∷ f ∷ g ∷ h ∷ []) ≡ shift_rows (sub_bytes (words_bytes (a ∷ b ∷ c ∷ d ∷ [])))
-  unfolding words_bytes word_bytes diagonal sub_bytes shift_rows cell tab
-  shifted_made p q r s = words_of e f g h p q r s
+  pub key_between : (i n : ℕ) (d : Columns) → n ≡ i + 1 → i < 9 → bytes_of (get_or (take 9 (drop 1 ks)) i d) ≡ round_key w n
+  key_between i n d p h = ap bytes_of (get_or-take 9 (drop 1 ks) i d h ∙ get_or-drop 1 ks i d ∙ ap (λ (j : ℕ). get_or ks j d) (omega arith)) ∙ key_at n d (omega arith)
 
-  -- and MixColumns
-  pub mixed_made : word_bytes e ≡ mixed_column 0x02 0x03 0x01 0x01 (map s_box (diagonal a b c d))
-      → word_bytes f ≡ mixed_column 0x02 0x03 0x01 0x01 (map s_box (diagonal b c d a))
-      → word_bytes g ≡ mixed_column 0x02 0x03 0x01 0x01 (map s_box (diagonal c d a b))
-      → word_bytes h ≡ mixed_column 0x02 0x03 0x01 0x01 (map s_box (diagonal d a b c))
-      → words_bytes (e ∷ f ∷ g ∷ h ∷ []) ≡ mix_columns (shift_rows (sub_bytes (words_bytes (a ∷ b ∷ c ∷ d ∷ []))))
-  unfolding words_bytes word_bytes diagonal sub_bytes shift_rows cell tab mix_columns mixed_column mixed
-  mixed_made p q r s = words_of e f g h p q r s
+  pub length_between : length (take 9 (drop 1 ks)) ≡ 9
+  length_between = length-take-le 9 (drop 1 ks) (omega (arith, length-drop 1 ks))
 
--- a round key added to equal states
-pub added_to : (s t k r : List ℕ) → r ≡ add_round_key s k → s ≡ t → r ≡ add_round_key t k
-added_to s t k r e p = e ∙ ap (λ (x : List ℕ). add_round_key x k) p
+  -- the other way round
+  pub key_back : (i : ℕ) (d : Columns) → i < 9 → bytes_of (get_or (reverse (take 9 (drop 1 ks))) i d) ≡ round_key w (9 - i)
+  key_back i d h =
+      let m : length (take 9 (drop 1 ks)) ≡ 9 = length_between in
+      ap bytes_of (get_or-reverse (take 9 (drop 1 ks)) i d (omega arith) ∙ ap (λ (j : ℕ). get_or (take 9 (drop 1 ks)) j d) (omega arith))
+      ∙ key_between (8 - i) (9 - i) d (omega arith) (omega arith)
 
 module _ (w k r : List ℕ) where
   pub rounds_none : (s block : List ℕ) → s ≡ block → k ≡ round_key w 0 → r ≡ add_round_key s k → r ≡ rounds w block 0
   unfolding rounds
-  rounds_none s block q p e = added_to s block k r e q ∙ ap (add_round_key block) p
+  rounds_none s block q p e = e ∙ ap₂ add_round_key q p
 
-  pub rounds_more : (s block : List ℕ) (n : ℕ) → s ≡ rounds w block n → k ≡ round_key w (n + 1) → r ≡ add_round_key (mix_columns (shift_rows (sub_bytes s))) k
+  pub rounds_more : (s t block : List ℕ) (n : ℕ) → s ≡ rounds w block n → k ≡ round_key w (n + 1) → t ≡ mix_columns (shift_rows (sub_bytes s)) → r ≡ add_round_key t k
       → r ≡ rounds w block (n + 1)
   unfolding rounds
-  rounds_more s block n q p e = e ∙ rw (add-one n) (ap₂ (λ (t j : List ℕ). add_round_key (mix_columns (shift_rows (sub_bytes t))) j) q (rw (add-one n) at p))
+  rounds_more s t block n q p f e = e ∙ rw (add-one n) (ap₂ add_round_key (f ∙ ap (λ (l : List ℕ). mix_columns (shift_rows (sub_bytes l))) q) (rw (add-one n) at p))
 
   pub rounds_done : (s t block : List ℕ) → s ≡ rounds w block 9 → t ≡ shift_rows (sub_bytes s) → k ≡ round_key w 10 → r ≡ add_round_key t k → r ≡ cipher w block
   unfolding cipher
   rounds_done s t block q h p e = e ∙ ap₂ add_round_key (h ∙ ap (λ (l : List ℕ). shift_rows (sub_bytes l)) q) p
 
--- ---- the inverse cipher
+  -- ---- the inverse cipher
 
-module _ (a b c d e f g h : ℕ) where
-  -- InvShiftRows and InvSubBytes, a column at a time
-  pub unshifted_made : word_bytes e ≡ map inv_s_box (diagonal a d c b) → word_bytes f ≡ map inv_s_box (diagonal b a d c)
-      → word_bytes g ≡ map inv_s_box (diagonal c b a d) → word_bytes h ≡ map inv_s_box (diagonal d c b a)
-      → words_bytes (e ∷ f ∷ g ∷ h ∷ []) ≡ inv_sub_bytes (inv_shift_rows (words_bytes (a ∷ b ∷ c ∷ d ∷ [])))
-  unfolding words_bytes word_bytes diagonal inv_sub_bytes inv_shift_rows cell tab
-  unshifted_made p q r s = words_of e f g h p q r s
+  pub inv_none : (s block : List ℕ) → s ≡ block → k ≡ round_key w 10 → r ≡ add_round_key s k → r ≡ inv_rounds w block 0
+  unfolding inv_rounds
+  inv_none s block q p e = e ∙ ap₂ add_round_key q p
 
-  -- and AddRoundKey and InvMixColumns
-  pub unmixed_made : (k0 k1 k2 k3 : ℕ) → word_bytes e ≡ mixed_column 0x0e 0x0b 0x0d 0x09 (map inv_s_box (diagonal a d c b) ⊕ word_bytes k0)
-      → word_bytes f ≡ mixed_column 0x0e 0x0b 0x0d 0x09 (map inv_s_box (diagonal b a d c) ⊕ word_bytes k1)
-      → word_bytes g ≡ mixed_column 0x0e 0x0b 0x0d 0x09 (map inv_s_box (diagonal c b a d) ⊕ word_bytes k2)
-      → word_bytes h ≡ mixed_column 0x0e 0x0b 0x0d 0x09 (map inv_s_box (diagonal d c b a) ⊕ word_bytes k3)
-      → words_bytes (e ∷ f ∷ g ∷ h ∷ [])
-      ≡ inv_mix_columns (add_round_key (inv_sub_bytes (inv_shift_rows (words_bytes (a ∷ b ∷ c ∷ d ∷ [])))) (words_bytes (k0 ∷ k1 ∷ k2 ∷ k3 ∷ [])))
-  unfolding words_bytes word_bytes diagonal inv_sub_bytes inv_shift_rows cell tab ◌⊕◌ add_round_key inv_mix_columns mixed_column mixed
-  unmixed_made k0 k1 k2 k3 p q r s = words_of e f g h p q r s
+  pub inv_more : (s t u block : List ℕ) (n : ℕ) → s ≡ inv_rounds w block n → k ≡ round_key w (9 - n) → t ≡ inv_sub_bytes (inv_shift_rows s) → u ≡ add_round_key t k
+      → r ≡ inv_mix_columns u → r ≡ inv_rounds w block (n + 1)
+  unfolding inv_rounds
+  inv_more s t u block n q p f e g =
+      g ∙ rw (add-one n) (ap inv_mix_columns (e ∙ ap₂ add_round_key (f ∙ ap (λ (l : List ℕ). inv_sub_bytes (inv_shift_rows l)) q) p))
 
-pub inv_none : (ws x block : List ℕ) → 44 ≤ length ws → words_bytes x ≡ block → words_bytes (x ⊕ key_at ws 40) ≡ inv_rounds (words_bytes ws) block 0
-unfolding inv_rounds
-inv_none ws x block h p = add_key ws x block 10 40 refl h p
-
-pub inv_more : (ws x s block : List ℕ) (n : ℕ) → 40 ≤ length ws → n < 9 → s ≡ inv_rounds (words_bytes ws) block n
-    → words_bytes x ≡ inv_mix_columns (add_round_key (inv_sub_bytes (inv_shift_rows s)) (words_bytes (key_at ws (36 - 4 * n))))
-    → words_bytes x ≡ inv_rounds (words_bytes ws) block (n + 1)
-unfolding inv_rounds
-inv_more ws x s block n h l e p =
-    rw (add-one n) (p ∙ ap₂ (λ (t k : List ℕ). inv_mix_columns (add_round_key (inv_sub_bytes (inv_shift_rows t)) k)) e
-    (sym (round_key_lem ws (9 - n) (36 - 4 * n) (omega arith) (omega arith))))
-
-pub inv_done : (ws x s block : List ℕ) → 4 ≤ length ws → s ≡ inv_rounds (words_bytes ws) block 9
-    → words_bytes x ≡ inv_sub_bytes (inv_shift_rows s) → words_bytes (x ⊕ key_at ws 0) ≡ inv_cipher (words_bytes ws) block
-unfolding inv_cipher
-inv_done ws x s block h e p =
-    add_key ws x (inv_sub_bytes (inv_shift_rows (inv_rounds (words_bytes ws) block 9))) 0 0 refl h (p ∙ ap (λ (l : List ℕ). inv_sub_bytes (inv_shift_rows l)) e)
+  pub inv_done : (s t block : List ℕ) → s ≡ inv_rounds w block 9 → t ≡ inv_sub_bytes (inv_shift_rows s) → k ≡ round_key w 0 → r ≡ add_round_key t k → r ≡ inv_cipher w block
+  unfolding inv_cipher
+  inv_done s t block q h p e = e ∙ ap₂ add_round_key (h ∙ ap (λ (l : List ℕ). inv_sub_bytes (inv_shift_rows l)) q) p

@@ -1,20 +1,24 @@
 -- The key schedule, a round key at a time, from what the calls in a turn of the code ensure. Assumes nothing.
 use mathlib.Core.Path.{◌≡◌, refl, sym, ap, ap₂, ◌∙◌}
-use mathlib.Core.List.{List, [], ◌∷◌, ◌++◌, map, append_assoc}
+use mathlib.Core.List.{List, [], ◌∷◌, ◌++◌, map, append_assoc, append-nil}
 use Prim.Native.Nat.{ℕ, zero, suc, ◌+◌, ◌-◌, ◌*◌, ◌/◌, ◌%◌, ◌≤◌, ◌<◌}
-use native.Mathlib.Nat.{le_antisymm, zero-add, suc-add}
-use native.Mathlib.Numerals.{add-one, add-two, add-three}
+use native.Mathlib.Nat.{zero-add, suc-add}
+use native.Mathlib.Numerals.{add-one}
 use native.Mathlib.Omega.{arith}
 use lib.Dec.{lit<}
-use lib.ListN.{length, take, drop, get_or, set, length-append, take-append-drop}
-use lib.Seq.{drop-append-add, drop-cons, take_at, drop_at, take_all, take-append-le, sets, sets-eq, length-sets, length-take-le}
+use lib.ListN.{length, take, drop, get_or, set, take-append-drop}
+use lib.Seq.{drop-append-add, drop-cons, drop_at, take_all, take-append-le, length-take-le}
 use lib.Bits.{bit_xor}
+use Rattle.std.specs.List.{flat_map}
+use Rattle.std.proofs.lemmas.List.{drop-take, take_more_set}
+use Rattle.std.proofs.lemmas.List.Concat.{flat_map-append}
+use Rattle.cipher.specs.declared.aes.Columns.{Columns}
+use Rattle.cipher.specs.declared.aes.RoundKey.{RoundKey}
 use Rattle.cipher.specs.Bytes.{◌⊕◌, word_bytes, words_bytes}
 use Rattle.cipher.specs.Fips197.{xtime, s_box, word, rot_word, power, rcon, key_temp, next_word, key_words, key_expansion, round_key}
-use Rattle.cipher.specs.inner.AesTables.{diagonal, NextKey}
+use Rattle.cipher.specs.inner.AesTables.{bytes_of, RoundKeyOf}
 use Rattle.cipher.proofs.Xor.{⊕-assoc}
-use Rattle.cipher.proofs.Words.{◌◂◌, word_xor, words_append, words_length, words_drop}
-use Rattle.cipher.proofs.AesBytes.{power_byte}
+use Rattle.cipher.proofs.Words.{◌◂◌, word_xor, words_append, words_drop}
 use Rattle.cipher.proofs.AesLengths.{key_words_long}
 
 -- ---- words
@@ -47,138 +51,125 @@ next_at q us x j i m r l e h z p =
 
 -- ---- a round key from the one before it
 
--- the words that the code makes: e f g h from a b c d, by the rotated word t and what the S-box makes of its bytes, u
-module _ (p a b c d t u : ℕ) (l : p < 256) (r : word_bytes t ≡ rot_word (word_bytes d)) (s : word_bytes u ≡ map s_box (diagonal t t t t)) where
-  pub next_made : (e f g h : ℕ) → e ≡ bit_xor (bit_xor a u) (p * 16777216) → f ≡ bit_xor b e → g ≡ bit_xor c f → h ≡ bit_xor d g → NextKey p a b c d e f g h
-  unfolding diagonal word_bytes
-  next_made e f g h ee ef eg eh =
-      let rcon : word_bytes (p * 16777216) ≡ p ∷ 0 ∷ 0 ∷ 0 ∷ [] = omega arith ◂ omega arith ◂ omega arith ◂ omega arith ◂ refl in
+-- what the code makes of round key k: e f g h, by the S-box of the rotated last word, u
+module _ (k : RoundKey) (u : ℕ) (l : k.power < 256) (s : word_bytes u ≡ map s_box (rot_word (word_bytes k.words.d))) where
+  -- the four words that follow, where the first byte of the round constant is the power
+  pub record Next (e f g h : ℕ) : Type 0 where
+    pub first : word_bytes e ≡ word_bytes k.words.a ⊕ (map s_box (rot_word (word_bytes k.words.d)) ⊕ (k.power ∷ 0 ∷ 0 ∷ 0 ∷ []))
+    pub second : word_bytes f ≡ word_bytes k.words.b ⊕ word_bytes e
+    pub third : word_bytes g ≡ word_bytes k.words.c ⊕ word_bytes f
+    pub fourth : word_bytes h ≡ word_bytes k.words.d ⊕ word_bytes g
+
+  pub next_made : (p e f g h : ℕ) → p ≡ k.power → e ≡ bit_xor (bit_xor k.words.a u) (p * 16777216 % 4294967296) → f ≡ bit_xor k.words.b e → g ≡ bit_xor k.words.c f → h ≡ bit_xor k.words.d g → Next e f g h
+  unfolding word_bytes
+  next_made p e f g h ep ee ef eg eh =
+      let rcon : word_bytes (p * 16777216 % 4294967296) ≡ k.power ∷ 0 ∷ 0 ∷ 0 ∷ [] = omega arith ◂ omega arith ◂ omega arith ◂ omega arith ◂ refl in
       record {
         first = ap word_bytes ee
-            ∙ word_xor (bit_xor a u) (p * 16777216)
-            ∙ ap₂ ◌⊕◌ (word_xor a u ∙ ap (◌⊕◌ (word_bytes a)) (s ∙ ap (map s_box) r)) rcon
-            ∙ ⊕-assoc (word_bytes a) (map s_box (rot_word (word_bytes d))) (p ∷ 0 ∷ 0 ∷ 0 ∷ []);
-        second = ap word_bytes ef ∙ word_xor b e;
-        third = ap word_bytes eg ∙ word_xor c f;
-        fourth = ap word_bytes eh ∙ word_xor d g;
+            ∙ word_xor (bit_xor k.words.a u) (p * 16777216 % 4294967296)
+            ∙ ap₂ ◌⊕◌ (word_xor k.words.a u ∙ ap (◌⊕◌ (word_bytes k.words.a)) s) rcon
+            ∙ ⊕-assoc (word_bytes k.words.a) (map s_box (rot_word (word_bytes k.words.d))) (k.power ∷ 0 ∷ 0 ∷ 0 ∷ []);
+        second = ap word_bytes ef ∙ word_xor k.words.b e;
+        third = ap word_bytes eg ∙ word_xor k.words.c f;
+        fourth = ap word_bytes eh ∙ word_xor k.words.d g;
       }
 
--- the words a b c d are round key n, the last of what n turns make of the key, and p is the power for the next one
-pub record KeyAt (key : List ℕ) (a b c d p n : ℕ) : Type 0 where
-  pub long : length key ≡ 16
-  pub rcon : p ≡ power n
-  pub small : p < 256
-  pub words : key_words key (4 * n) ≡ take (16 * n) (key_words key (4 * n)) ++ words_bytes (a ∷ b ∷ c ∷ d ∷ [])
+-- round key n is the end of the first 4 n + 4 words: those that come later stand behind
+module _ (key : List ℕ) (long : length key ≡ 16) where
+  all_long : (n : ℕ) → length (key_words key (4 * n)) ≡ 16 * n + 16
+  all_long n = key_words_long key long (4 * n) ∙ omega arith
 
-pub key_start : (a b c d : ℕ) → KeyAt (words_bytes (a ∷ b ∷ c ∷ d ∷ [])) a b c d 1 0
-unfolding key_words power words_bytes word_bytes
-key_start a b c d = record { long = refl; rcon = refl; small = lit< tt; words = refl }
+  pub round_key_end : (n : ℕ) → n ≤ 10 → round_key (key_expansion key) n ≡ drop (16 * n) (key_words key (4 * n))
+  unfolding round_key key_expansion
+  round_key_end n h =
+      let o : 40 - 4 * n + 4 * n ≡ 40 = omega arith in
+      let m : 16 + 4 * (4 * n) ≡ 16 * n + 16 = omega arith in
+      let front : take (16 * n + 16) (key_words key 40) ≡ key_words key (4 * n) = rw (o, m) at (words_front key long (4 * n) (40 - 4 * n)) in
+      sym (drop-take (16 * n) 16 (key_words key 40)) ∙ ap (drop (16 * n)) front
 
-module _ {key : List ℕ} {a b c d p n : ℕ} (k : KeyAt key a b c d p n) where
-  all_long : length (key_words key (4 * n)) ≡ 16 * n + 16
-  all_long = key_words_long key k.long (4 * n) ∙ omega arith
+pub first_key : (key : List ℕ) (k : RoundKey) → length key ≡ 16 → bytes_of k.words ≡ key → k.power ≡ 1 → RoundKeyOf key 0 k
+unfolding key_words power
+first_key key k l e p = record { key_size = l; words = e ∙ sym (round_key_end key l 0 (omega arith)); next_power = p }
 
-  before_long : length (take (16 * n) (key_words key (4 * n))) ≡ 16 * n
-  before_long = length-take-le (16 * n) (key_words key (4 * n)) (omega (arith, all_long))
-
+module _ {key : List ℕ} {n : ℕ} {k : RoundKey} (r : RoundKeyOf key n k) (h : n < 10) (k' : RoundKey) where
   -- four words more
-  pub key_words_lem : (e f g h : ℕ) → NextKey p a b c d e f g h → key_words key (4 * n + 4) ≡ key_words key (4 * n) ++ words_bytes (e ∷ f ∷ g ∷ h ∷ [])
+  key_words_lem : (u : ℕ) (l : k.power < 256) (s : word_bytes u ≡ map s_box (rot_word (word_bytes k.words.d))) → Next k u l s k'.words.a k'.words.b k'.words.c k'.words.d
+      → key_words key (4 * n + 4) ≡ key_words key (4 * n) ++ bytes_of k'.words
   unfolding key_words key_temp rcon
-  key_words_lem e f g h x =
+  key_words_lem u l s x =
       let m : ℕ = 4 * n in
-      let q : List ℕ = take (16 * n) (key_words key m) in
-      let us : List ℕ = a ∷ b ∷ c ∷ d ∷ [] in
-      let vs : List ℕ = e ∷ f ∷ g ∷ h ∷ [] in
-      let len : length q ≡ 4 * m = omega (arith, before_long) in
+      let w : List ℕ = key_words key m in
+      let q : List ℕ = take (16 * n) w in
+      let a : ℕ = k.words.a in
+      let d : ℕ = k.words.d in
+      let e : ℕ = k'.words.a in
+      let f : ℕ = k'.words.b in
+      let g : ℕ = k'.words.c in
+      let i : ℕ = k'.words.d in
+      let us : List ℕ = a ∷ k.words.b ∷ k.words.c ∷ d ∷ [] in
+      let vs : List ℕ = e ∷ f ∷ g ∷ i ∷ [] in
+      let long : length w ≡ 16 * n + 16 = all_long key r.key_size n in
+      let len : length q ≡ 4 * m = length-take-le (16 * n) w (omega arith) ∙ omega arith in
+      let parts : w ≡ q ++ words_bytes us = sym (take-append-drop (16 * n) w) ∙ ap (λ (t : List ℕ). q ++ t) (sym (r.words ∙ round_key_end key r.key_size n (omega arith))) in
       let count : m + 4 ≡ suc (suc (suc (suc m))) = omega arith in
       let j : (m + 4) / 4 - 1 ≡ n = omega arith in
       let first : word_bytes e ≡ word_bytes a ⊕ (map s_box (rot_word (word_bytes d)) ⊕ (power ((m + 4) / 4 - 1) ∷ 0 ∷ 0 ∷ 0 ∷ [])) =
-      x.first ∙ ap (λ (y : ℕ). word_bytes a ⊕ (map s_box (rot_word (word_bytes d)) ⊕ (y ∷ 0 ∷ 0 ∷ 0 ∷ []))) (k.rcon ∙ ap power (sym j)) in
+      x.first ∙ ap (λ (y : ℕ). word_bytes a ⊕ (map s_box (rot_word (word_bytes d)) ⊕ (y ∷ 0 ∷ 0 ∷ 0 ∷ []))) (r.next_power ∙ ap power (sym j)) in
       rw count
-      (ap (λ (w : List ℕ). next_word (suc (suc (suc m))) (next_word (suc (suc m)) (next_word (suc m) w)))
-      (ap (next_word m) k.words ∙ next_at q us e m 0 m 0 len (omega arith) (lit< tt) (omega arith) first)
-      ∙ ap (λ (w : List ℕ). next_word (suc (suc (suc m))) (next_word (suc (suc m)) w))
+      (ap (λ (t : List ℕ). next_word (suc (suc (suc m))) (next_word (suc (suc m)) (next_word (suc m) t)))
+      (ap (next_word m) parts ∙ next_at q us e m 0 m 0 len (omega arith) (lit< tt) (omega arith) first)
+      ∙ ap (λ (t : List ℕ). next_word (suc (suc (suc m))) (next_word (suc (suc m)) t))
       (next_at q (us ++ (e ∷ [])) f m 1 (suc m) 1 len (omega arith) (lit< tt) (omega arith) x.second)
       ∙ ap (next_word (suc (suc (suc m)))) (next_at q (us ++ (e ∷ f ∷ [])) g m 2 (suc (suc m)) 2 len (omega arith) (lit< tt) (omega arith) x.third)
-      ∙ next_at q (us ++ (e ∷ f ∷ g ∷ [])) h m 3 (suc (suc (suc m))) 3 len (omega arith) (lit< tt) (omega arith) x.fourth)
-      ∙ ap (λ (w : List ℕ). q ++ w) (words_append us vs)
+      ∙ next_at q (us ++ (e ∷ f ∷ g ∷ [])) i m 3 (suc (suc (suc m))) 3 len (omega arith) (lit< tt) (omega arith) x.fourth)
+      ∙ ap (λ (t : List ℕ). q ++ t) (words_append us vs)
       ∙ sym (append_assoc q (words_bytes us) (words_bytes vs))
-      ∙ ap (λ (w : List ℕ). w ++ words_bytes vs) (sym k.words)
+      ∙ ap (λ (t : List ℕ). t ++ words_bytes vs) (sym parts)
 
-  pub key_next : (e f g h r : ℕ) → NextKey p a b c d e f g h → r ≡ xtime p → KeyAt key e f g h r (n + 1)
+  pub next_key : (u : ℕ) (l : k.power < 256) (s : word_bytes u ≡ map s_box (rot_word (word_bytes k.words.d))) → Next k u l s k'.words.a k'.words.b k'.words.c k'.words.d
+      → k'.power ≡ xtime k.power → RoundKeyOf key (n + 1) k'
   unfolding power
-  key_next e f g h r x y =
+  next_key u l s x y =
       let i : 4 * (n + 1) ≡ 4 * n + 4 = omega arith in
-      let j : 16 * (n + 1) ≡ 16 * n + 16 = omega arith in
-      let made : key_words key (4 * n + 4) ≡ key_words key (4 * n) ++ words_bytes (e ∷ f ∷ g ∷ h ∷ []) = key_words_lem e f g h x in
-      let next : r ≡ power (n + 1) = rw (add-one n) (y ∙ ap xtime k.rcon) in
+      let e : length (key_words key (4 * n)) ≡ 16 * (n + 1) = all_long key r.key_size n ∙ omega arith in
       record {
-        long = k.long;
-        rcon = next;
-        small = rw next (power_byte (n + 1));
-        words = rw (i, j) (made ∙ ap (λ (w : List ℕ). w ++ words_bytes (e ∷ f ∷ g ∷ h ∷ [])) (sym (ap (take (16 * n + 16)) made ∙ take_at (key_words key (4 * n)) _ (16 * n + 16) all_long)));
+        key_size = r.key_size;
+        words = sym (round_key_end key r.key_size (n + 1) (omega arith) ∙ ap (drop (16 * (n + 1))) (ap (key_words key) i ∙ key_words_lem u l s x)
+            ∙ drop_at (key_words key (4 * n)) (bytes_of k'.words) (16 * (n + 1)) e);
+        next_power = rw (add-one n) (y ∙ ap xtime r.next_power);
       }
-
-  -- the words that come later leave it where it is
-  pub key_round : n ≤ 10 → words_bytes (a ∷ b ∷ c ∷ d ∷ []) ≡ round_key (key_expansion key) n
-  unfolding round_key key_expansion
-  key_round h =
-      let q : List ℕ = take (16 * n) (key_words key (4 * n)) in
-      let u : List ℕ = words_bytes (a ∷ b ∷ c ∷ d ∷ []) in
-      let o : 40 - 4 * n + 4 * n ≡ 40 = omega arith in
-      let z : List ℕ = drop (16 + 4 * (4 * n)) (key_words key 40) in
-      let front : take (16 + 4 * (4 * n)) (key_words key 40) ≡ q ++ u = rw o at (words_front key k.long (4 * n) (40 - 4 * n)) ∙ k.words in
-      sym
-      (ap (λ (w : List ℕ). take 16 (drop (16 * n) w))
-      (sym (take-append-drop (16 + 4 * (4 * n)) (key_words key 40)) ∙ ap (λ (w : List ℕ). w ++ z) front ∙ append_assoc q u z)
-      ∙ ap (take 16) (drop_at q (u ++ z) (16 * n) before_long)
-      ∙ take_at u z 16 (words_length (a ∷ b ∷ c ∷ d ∷ [])))
 
 -- ---- the loop of the code that fills a schedule
 
--- what holds at its head after n turns: w has its first 4 n + 4 words, of which the last are a, b, c, d
-pub record Schedule (key w : List ℕ) (a b c d p n : ℕ) : Type 0 where
-  pub within : n ≤ 10
-  pub size : length w ≡ 44
-  pub here : KeyAt key a b c d p n
-  pub done : words_bytes (take (4 * n + 4) w) ≡ key_words key (4 * n)
+-- the words up to a round key end with it
+key_grows : (key : List ℕ) (n : ℕ) (k : RoundKey) → n < 10 → RoundKeyOf key (n + 1) k → key_words key (4 * (n + 1)) ≡ key_words key (4 * n) ++ bytes_of k.words
+key_grows key n k h r =
+    let w : List ℕ = key_words key (4 * (n + 1)) in
+    let o : 4 + 4 * n ≡ 4 * (n + 1) = omega arith in
+    let m : 16 + 4 * (4 * n) ≡ 16 * (n + 1) = omega arith in
+    sym (take-append-drop (16 * (n + 1)) w)
+    ∙ ap₂ ◌++◌ (rw (o, m) at (words_front key r.key_size (4 * n) 4)) (sym (r.words ∙ round_key_end key r.key_size (n + 1) (omega arith)))
 
-pub schedule_start : (w : List ℕ) (a b c d : ℕ) → length w ≡ 44
-    → Schedule (words_bytes (a ∷ b ∷ c ∷ d ∷ [])) (sets w 0 (a ∷ b ∷ c ∷ d ∷ [])) a b c d 1 0
+-- the first n of the round keys after the key itself are in ks
+abbrev pub KeysMade : List ℕ → ℕ → List Columns → Type 0
+KeysMade key n ks = key ++ flat_map bytes_of (take n ks) ≡ key_words key (4 * n)
+
+pub keys_start : (key : List ℕ) (ks : List Columns) → KeysMade key 0 ks
 unfolding key_words
-schedule_start w a b c d h =
-    record {
-      within = omega arith;
-      size = length-sets w 0 (a ∷ b ∷ c ∷ d ∷ []) ∙ h;
-      here = key_start a b c d;
-      done = ap (λ (t : List ℕ). words_bytes (take 4 t)) (sets-eq (a ∷ b ∷ c ∷ d ∷ []) w 0 (omega arith));
-    }
+keys_start key ks = append-nil key
 
--- stores from index k on
-stored : (w vs : List ℕ) (k : ℕ) → k + length vs ≤ length w → take (k + length vs) (sets w k vs) ≡ take k w ++ vs
-stored w vs k h =
-    let l : length (take k w) ≡ k = length-take-le k w (omega arith) in
-    let m : length (take k w ++ vs) ≡ k + length vs = length-append (take k w) vs ∙ ap (λ (i : ℕ). i + length vs) l in
-    rw (sets-eq vs w k h) (take_at (take k w ++ vs) (drop (k + length vs) w) (k + length vs) m)
+pub keys_step : {key : List ℕ} {n : ℕ} (ks : List Columns) (k : RoundKey) → KeysMade key n ks → n < length ks → n < 10 → RoundKeyOf key (n + 1) k
+    → KeysMade key (n + 1) (set ks n k.words)
+keys_step {key} {n} ks k m l h r =
+    ap (λ (t : List Columns). key ++ flat_map bytes_of t) (take_more_set ks n k.words l)
+    ∙ ap (λ (t : List ℕ). key ++ t) (flat_map-append bytes_of (take n ks) (k.words ∷ []) ∙ ap (λ (t : List ℕ). flat_map bytes_of (take n ks) ++ t) (append-nil (bytes_of k.words)))
+    ∙ sym (append_assoc key (flat_map bytes_of (take n ks)) (bytes_of k.words))
+    ∙ ap (λ (t : List ℕ). t ++ bytes_of k.words) m
+    ∙ sym (key_grows key n k h r)
 
-pub schedule_step : {key w : List ℕ} {a b c d p n : ℕ} → Schedule key w a b c d p n → n < 10 → (e f g h r : ℕ) → NextKey p a b c d e f g h → r ≡ xtime p
-    → Schedule key (set (set (set (set w (4 * n + 4) e) (4 * n + 4 + 1) f) (4 * n + 4 + 2) g) (4 * n + 4 + 3) h) e f g h r (n + 1)
-schedule_step {key} {w} {a} {b} {c} {d} {p} {n} i l e f g h r x y =
-    let vs : List ℕ = e ∷ f ∷ g ∷ h ∷ [] in
-    let size : length w ≡ 44 = i.size in
-    let k : 4 * (n + 1) ≡ 4 * n + 4 = omega arith in
-    rw (add-one (4 * n + 4), add-two (4 * n + 4), add-three (4 * n + 4)) (record {
-      within = omega arith;
-      size = length-sets w (4 * n + 4) vs ∙ size;
-      here = key_next i.here e f g h r x y;
-      done = rw k (ap words_bytes (stored w vs (4 * n + 4) (omega arith))
-          ∙ words_append (take (4 * n + 4) w) vs
-          ∙ ap (λ (t : List ℕ). t ++ words_bytes vs) i.done
-          ∙ sym (key_words_lem i.here e f g h x));
-    })
-
-pub schedule_done : {key w : List ℕ} {a b c d p n : ℕ} → Schedule key w a b c d p n → 10 ≤ n → words_bytes w ≡ key_expansion key
-unfolding key_expansion
-schedule_done {key} {w} {a} {b} {c} {d} {p} {n} i h =
-    let e : n ≡ 10 = le_antisymm i.within h in
-    ap words_bytes (sym (take_all (4 * n + 4) w (omega arith))) ∙ i.done ∙ ap (λ (m : ℕ). key_words key (4 * m)) e
+pub keys_done : {key : List ℕ} (ks : List Columns) (k : RoundKey) (n : ℕ) → KeysMade key n ks → length ks ≡ 10 → n ≡ 10 → RoundKeyOf key 0 k
+    → flat_map bytes_of (k.words ∷ ks) ≡ key_expansion key
+unfolding key_expansion key_words
+keys_done {key} ks k n m l e r =
+    let first : bytes_of k.words ≡ key = r.words ∙ round_key_end key r.key_size 0 (omega arith) in
+    rw first (ap (λ (t : List Columns). key ++ flat_map bytes_of t) (sym (take_all 10 ks (omega arith))) ∙ rw e at m)

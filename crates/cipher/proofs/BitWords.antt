@@ -13,7 +13,7 @@ use lib.Dec.{leb, lit<}
 use lib.ListN.{length, take, drop, get_or, replicate, length-append, length-replicate, replicate-append-replicate, length-take, length-drop, take-append-drop}
 use lib.Seq.{take_at, drop_at, length-take-le}
 use lib.Pow.{pow_pos, pow_mono, pow-add, shr-shr, shl-shr, field, mod-mod-pow, split, shr_lt}
-use lib.Bits.{bit_xor, bit_and, differ, and_step, xor_shr, and_shr, block_half, block_odd, shifted_even}
+use lib.Bits.{bit_xor, bit_and, bit_or, or_comm, or_shifted, differ, and_step, xor_shr, and_shr, block_half, block_odd, shifted_even}
 use Rattle.cipher.specs.Bits.{bool, digit, bits, num, num_from, differs, ◌⊞◌, to_bits, to_bytes}
 use Rattle.cipher.specs.Bytes.{Bytes}
 use Rattle.cipher.specs.Fips46.{select, left_shift}
@@ -194,6 +194,32 @@ bits_rotate m n x h =
     ∙ ap₂ ◌++◌ (bits_mod n n x (le_refl n) ∙ sym (drop_at (bits m (x / 2 ^ n)) (bits n x) m (length_bits m (x / 2 ^ n))))
     (sym (take_at (bits m (x / 2 ^ n)) (bits n x) m (length_bits m (x / 2 ^ n))))
     ∙ ap (left_shift m) (sym (bits_split m n x))
+
+-- the same by shifts, at w bits: what `rotate_left` and `rotate_right` compute
+turned_parts : (m n x : ℕ) → x < 2 ^ (m + n) → bits (n + m) (bit_or (x * 2 ^ m % 2 ^ (n + m)) (x / 2 ^ n)) ≡ left_shift m (bits (m + n) x)
+turned_parts m n x h =
+    ap (λ (y : ℕ). bits (n + m) (bit_or y (x / 2 ^ n))) shl_low
+    ∙ ap (bits (n + m)) (or_shifted (x % 2 ^ n) m (x / 2 ^ n) (shr_lt m n h))
+    ∙ bits_rotate m n x h
+  where
+    -- what a shift leaves of x are its n low bits
+    shl_low : x * 2 ^ m % 2 ^ (n + m) ≡ x % 2 ^ n * 2 ^ m
+    shl_low =
+        let e : (x / 2 ^ n * 2 ^ n + x % 2 ^ n) * 2 ^ m ≡ x * 2 ^ m = ap (λ (y : ℕ). y * 2 ^ m) (split x n) in
+        let k : x * 2 ^ m ≡ x / 2 ^ n * (2 ^ n * 2 ^ m) + x % 2 ^ n * 2 ^ m = omega (arith, e) in
+        let d = digits_lt {r = 0} (mod-lt x (pow_pos n)) (pow_pos m) in
+        let b : x % 2 ^ n * 2 ^ m < 2 ^ n * 2 ^ m = omega (arith, d) in
+        ap (λ (y : ℕ). x * 2 ^ m % y) (pow-add 2 n m) ∙ ap (λ (y : ℕ). y % (2 ^ n * 2 ^ m)) k ∙ digits_mod (x / 2 ^ n) b
+
+pub turned_word : (w m x : ℕ) → m ≤ w → x < 2 ^ w → bits w (bit_or (x * 2 ^ m % 2 ^ w) (x / 2 ^ (w - m))) ≡ left_shift m (bits w x)
+turned_word w m x h b =
+    let p : m + (w - m) ≡ w = omega arith in
+    let q : w - m + m ≡ w = omega arith in
+    let r : bits (w - m + m) (bit_or (x * 2 ^ m % 2 ^ (w - m + m)) (x / 2 ^ (w - m))) ≡ left_shift m (bits (m + (w - m)) x) = turned_parts m (w - m) x (rw p b) in
+    rw (p, q) at r
+
+pub turned_back_word : (w m x : ℕ) → m ≤ w → x < 2 ^ w → bits w (bit_or (x / 2 ^ (w - m)) (x * 2 ^ m % 2 ^ w)) ≡ left_shift m (bits w x)
+turned_back_word w m x h b = ap (bits w) (or_comm (x / 2 ^ (w - m)) (x * 2 ^ m % 2 ^ w)) ∙ turned_word w m x h b
 
 -- ---- numbers of bits
 

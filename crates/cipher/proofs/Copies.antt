@@ -4,25 +4,9 @@ use mathlib.Core.List.{List, ◌++◌, append_assoc, append-nil}
 use mathlib.Core.Logic.{⊎_elim}
 use Prim.Native.Nat.{ℕ, ◌+◌, ◌-◌, ◌≤◌, ◌<◌, min}
 use native.Mathlib.Omega.{arith}
-use lib.ListN.{length, take, drop, set, get_or, length-append, length-take, length-drop, drop_of_length-le}
-use lib.Seq.{take_at, drop_at, take_all, drop-length, drop-drop, length-take-le, get_or-take}
+use lib.ListN.{length, take, drop, length-append, length-take, length-drop, drop_of_length-le}
+use lib.Seq.{take_at, drop_at, take_all, drop-drop, length-take-le}
 use Rattle.cipher.proofs.Numbers.{le_or_lt}
-use Rattle.cipher.proofs.Filling.{Filled, fill_step}
-
--- a turn of a copy of src over the front of d₀, as far as both reach
-pub copy_turn : (src d₀ : List ℕ) {d : List ℕ} {i : ℕ} → Filled (take (length d₀) src) d₀ d i → i < length (take (length d₀) src)
-    → Filled (take (length d₀) src) d₀ (set d i (get_or src i 0)) (i + 1)
-copy_turn src d₀ {d} {i} r h =
-    let k : i < length d₀ = let f = r.fits in omega arith in
-    fill_step r h _ (sym (get_or-take (length d₀) src i 0 k))
-
--- past the shorter of the two, the destination is as it was
-pub drop_copied : (src d : List ℕ) → drop (length (take (length d) src)) d ≡ drop (length src) d
-drop_copied src d =
-    ⊎_elim
-    (λ (h : length src ≤ length d). rw (take_all (length d) src h))
-    (λ (h : length d < length src). let k : length d ≤ length src = omega arith in rw (length-take-le (length d) src k, drop_of_length-le d k, drop-length))
-    (le_or_lt (length src) (length d))
 
 -- a copy that fills the whole destination leaves the source
 pub copied : (p d b : List ℕ) → b ≡ take (length d) p ++ drop (length p) d → length d ≡ length p → b ≡ p

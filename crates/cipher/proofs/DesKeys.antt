@@ -13,13 +13,17 @@ use lib.Pow.{shr_lt}
 use lib.ListN.{length, take, drop, get_or, set, length-set}
 use native.Mathlib.Numerals.{add-one}
 use lib.Seq.{take_at, drop_at, take-suc-set, drop-cons, take_all}
+use Rattle.std.proofs.lemmas.List.{map-append}
+use Rattle.cipher.specs.declared.des.TheConstants.{PC2_ENTRIES}
 use Rattle.cipher.specs.Bits.{bits, num, ◌⊞◌, to_bits}
 use Rattle.cipher.specs.Bytes.{tab}
 use Rattle.cipher.specs.Fips46.{select, left_shift, shifts, keys_from, KS, PC1, PC2}
-use Rattle.cipher.specs.inner.DesTables.{among, packed_places, places, pc2_bits, Pc2Table, transposed, key_bits}
-use Rattle.cipher.proofs.BitWords.{bit_at, down, bits_down, bits_shr, length_bits, length_select, bits_mod, bits_join, bits_split, bits_rotate, bits_num}
+use Rattle.cipher.specs.inner.DesTables.{among, packed_places, places, pc2_bits, transposed, key_bits}
+use Rattle.cipher.specs.inner.DesWith.{keys_back}
+use Rattle.cipher.proofs.BitWords.{bit_at, down, bits_down, bits_shr, length_bits, length_select, bits_mod, bits_join, bits_split, bits_num}
 use Rattle.cipher.proofs.BitWords.{select_append}
 use Rattle.cipher.proofs.DesWords.{mirrored, loaded}
+use Rattle.cipher.proofs.DesPc2.{pc2_entry}
 use Rattle.cipher.proofs.Table.{at}
 
 -- ---- C0 and D0
@@ -92,9 +96,6 @@ once_at i (inr e) = rw e
 pub twice : (i : ℕ) → i < 16 → 2 ≤ i → ((i ≡ 8) ⊎ (i ≡ 15) → ⊥) → get_or shifts i 0 ≡ 2
 twice i h k n = shift_count i h ∙ rw (le-ltb i 2 k, ne_eqb i 8 (λ e. n (inl e)), ne_eqb i 15 (λ e. n (inr e)))
 
-pub shift_word : (m n c k : ℕ) → c < 2 ^ (m + n) → k ≡ m → bits (n + m) (c % 2 ^ n * 2 ^ m + c / 2 ^ n) ≡ left_shift k (bits (m + n) c)
-shift_word m n c k h e = bits_rotate m n c h ∙ ap (λ (j : ℕ). left_shift j (bits (m + n) c)) (sym e)
-
 -- ---- PC-2
 
 length_places : (n : ℕ) → n < 2 → length (packed_places (take 24 (drop (n * 24) PC2))) ≡ 32
@@ -111,11 +112,11 @@ pc2_low : (m x : ℕ) → pc2_bits m (x % 128) ≡ pc2_bits m x
 unfolding pc2_bits
 pc2_low m x = ap (λ (l : List Bool). select (places m) (among (7 * m) (49 - 7 * m) l)) (bits_mod 7 7 x (le_refl 7))
 
-pub pc2_pick : (t : List ℕ) (m x : ℕ) → Pc2Table t → m < 8 → bits 32 (get_or t (m * 128 + x % 128) 0) ≡ pc2_bits m x
-pc2_pick t m x h k =
+pub pc2_pick : (m x : ℕ) → m < 8 → bits 32 (get_or PC2_ENTRIES (m * 128 + x % 128) 0) ≡ pc2_bits m x
+pc2_pick m x k =
     let e : (m * 128 + x % 128) / 128 ≡ m = omega arith in
     let o : (m * 128 + x % 128) % 128 ≡ x % 128 = omega arith in
-    ap (bits 32) (h.entry (m * 128 + x % 128) (omega arith))
+    ap (bits 32) (pc2_entry (m * 128 + x % 128) (omega arith))
     ∙ ap₂ (λ (i j : ℕ). bits 32 (num (pc2_bits i j))) e o
     ∙ bits_num 32 (pc2_bits m (x % 128)) (length_pc2 m (x % 128) k)
     ∙ pc2_low m x
@@ -206,10 +207,6 @@ key_word c d x y r h k p q e =
 
 -- ---- the loop over the rounds
 
-map_append : (f : ℕ → List Bool) (s t : List ℕ) → map f (s ++ t) ≡ map f s ++ map f t
-map_append f [] t = refl
-map_append f (x ∷ s) t = ap (λ (l : List (List Bool)). f x ∷ l) (map_append f s t)
-
 pub keys_step : (i c d c' d' k : ℕ) → i < 16 → bits 28 c' ≡ left_shift (get_or shifts i 0) (bits 28 c) → bits 28 d' ≡ left_shift (get_or shifts i 0) (bits 28 d)
     → key_bits k ≡ select PC2 (bits 28 c' ++ bits 28 d')
     → key_bits k ∷ keys_from (drop (suc i) shifts) (bits 28 c') (bits 28 d') ≡ keys_from (drop i shifts) (bits 28 c) (bits 28 d)
@@ -226,28 +223,24 @@ no_keys c d = refl
 pub record Keys (goal : List (List Bool)) (c d : ℕ) (ks : List ℕ) (i : ℕ) : Type 0 where
   pub within : i ≤ 16
   pub long : length ks ≡ 16
-  pub small_c : c < 2 ^ 28
-  pub small_d : d < 2 ^ 28
   pub rest : map key_bits (take i ks) ++ keys_from (drop i shifts) (bits 28 c) (bits 28 d) ≡ goal
 
-pub keys_start : (c d : ℕ) (ks : List ℕ) → length ks ≡ 16 → c < 2 ^ 28 → d < 2 ^ 28 → Keys (keys_from shifts (bits 28 c) (bits 28 d)) c d ks 0
-keys_start c d ks h p q = record { within = omega arith; long = h; small_c = p; small_d = q; rest = refl }
+pub keys_start : {goal : List (List Bool)} (c d : ℕ) (ks : List ℕ) → length ks ≡ 16 → keys_from shifts (bits 28 c) (bits 28 d) ≡ goal → Keys goal c d ks 0
+keys_start c d ks h e = record { within = omega arith; long = h; rest = e }
 
 pub keys_turn : {goal : List (List Bool)} {c d : ℕ} {ks : List ℕ} {i : ℕ} (c' d' k : ℕ) → Keys goal c d ks i → i < 16
-    → (bits 28 c' ≡ left_shift (get_or shifts i 0) (bits 28 c)) × (c' < 2 ^ 28) → (bits 28 d' ≡ left_shift (get_or shifts i 0) (bits 28 d)) × (d' < 2 ^ 28)
+    → bits 28 c' ≡ left_shift (get_or shifts i 0) (bits 28 c) → bits 28 d' ≡ left_shift (get_or shifts i 0) (bits 28 d)
     → key_bits k ≡ select PC2 (bits 28 c' ++ bits 28 d') → Keys goal c' d' (set ks i k) (i + 1)
 keys_turn {goal} {c} {d} {ks} {i} c' d' k r h p q e =
     record {
       within = omega arith;
       long = length-set ks i k ∙ r.long;
-      small_c = p.1;
-      small_d = q.1;
       rest =
           rw (add-one i)
           (ap (λ (l : List (List Bool)). l ++ keys_from (drop (suc i) shifts) (bits 28 c') (bits 28 d'))
-          (ap (map key_bits) (take-suc-set ks i k (omega (arith, r.long))) ∙ map_append key_bits (take i ks) (k ∷ []))
+          (ap (map key_bits) (take-suc-set ks i k (omega (arith, r.long))) ∙ map-append key_bits (take i ks) (k ∷ []))
           ∙ append_assoc (map key_bits (take i ks)) (key_bits k ∷ []) (keys_from (drop (suc i) shifts) (bits 28 c') (bits 28 d'))
-          ∙ ap (λ (l : List (List Bool)). map key_bits (take i ks) ++ l) (keys_step i c d c' d' k h p.0 q.0 e)
+          ∙ ap (λ (l : List (List Bool)). map key_bits (take i ks) ++ l) (keys_step i c d c' d' k h p q e)
           ∙ r.rest);
     }
 
@@ -258,11 +251,9 @@ keys_done {goal} {c} {d} {ks} {i} r h =
 
 -- ---- the last key first
 
--- the keys of the first n rounds, from Cn and Dn
-unfoldable pub keys_back : ℕ → List Bool → List Bool → List (List Bool)
-keys_back zero c d = []
-keys_back (suc n) c d =
-    select PC2 (c ++ d) ∷ keys_back n (left_shift (28 - get_or shifts n 0) c) (left_shift (28 - get_or shifts n 0) d)
+pub no_keys_back : (c d : List Bool) → keys_back 0 c d ≡ []
+unfolding keys_back
+no_keys_back c d = refl
 
 pub keys_step_back : (i c d c' d' k : ℕ) → bits 28 c' ≡ left_shift (28 - get_or shifts i 0) (bits 28 c) → bits 28 d' ≡ left_shift (28 - get_or shifts i 0) (bits 28 d)
     → key_bits k ≡ select PC2 (bits 28 c ++ bits 28 d) → key_bits k ∷ keys_back i (bits 28 c') (bits 28 d') ≡ keys_back (suc i) (bits 28 c) (bits 28 d)

@@ -1,21 +1,22 @@
--- The function f on words by the table SP, and the loops over the sixteen rounds. Assumes nothing.
+-- The function f on words by the table SP, and the rounds over a list of round keys. Assumes nothing.
 use mathlib.Core.Path.{◌≡◌, refl, sym, ap, ap₂, ◌∙◌}
 use mathlib.Core.Bool.{Bool}
-use mathlib.Core.List.{List, [], ◌∷◌, ◌++◌, append-nil, map, reverse, reverse-cons}
-use Prim.Native.Nat.{ℕ, zero, suc, ◌+◌, ◌-◌, ◌*◌, ◌/◌, ◌%◌, ◌^◌, ◌≤◌, ◌<◌}
-use native.Mathlib.Nat.{le_refl, le_of_eq, add-zero, le_of_suc-le-suc, not-suc-le-zero}
-use native.Mathlib.Decide.{dec_lt}
-use native.Mathlib.Numerals.{add-one}
+use mathlib.Core.List.{List, [], ◌∷◌, ◌++◌, append-nil, map}
+use Prim.Native.Nat.{ℕ, ◌+◌, ◌-◌, ◌*◌, ◌/◌, ◌%◌, ◌^◌, ◌≤◌, ◌<◌}
+use native.Mathlib.Nat.{le_refl, le_of_eq, add-zero}
 use native.Mathlib.Omega.{arith}
 use lib.Pow.{shr-shr, field}
 use lib.Bits.{bit_xor, xor_shr}
-use lib.ListN.{length, take, drop, get_or, length-append, length-map, length-reverse, drop_of_length-le, get_or-append}
-use lib.Seq.{take_at, drop_at, drop-cons, get_or_at, take_all}
+use lib.ListN.{length, take, drop, get_or, length-append}
+use lib.Seq.{take_at, drop_at, take_all}
+use Rattle.std.proofs.lemmas.List.{map-append}
+use Rattle.cipher.specs.declared.des.TheConstants.{SP}
 use Rattle.cipher.specs.Bits.{bits, num, ◌⊞◌, to_bits, to_bytes}
 use Rattle.cipher.specs.Fips46.{select, left_shift, substitute, substitute_all, f, P, E, IP, IP⁻¹, S1, S2, S3, S4, S5, S6, S7, S8, Halves, round, iterations, crypt}
-use Rattle.cipher.specs.Fips46.{KS}
-use Rattle.cipher.specs.Fips46.{encipher, decipher, des_encrypt, des_decrypt, tdea_encrypt, tdea_decrypt, tdea2_encrypt, tdea2_decrypt}
-use Rattle.cipher.specs.inner.DesTables.{among, held, key_bits, box, sp_bits, SpTable}
+use Rattle.cipher.specs.Fips46.{des_encrypt, des_decrypt, tdea_encrypt, tdea_decrypt, tdea2_encrypt, tdea2_decrypt}
+use Rattle.cipher.specs.inner.DesWith.{des_with}
+use Rattle.cipher.specs.inner.DesTables.{among, held, holds, key_bits, box, sp_bits}
+use Rattle.cipher.proofs.DesSp.{sp_entry}
 use Rattle.cipher.proofs.BitWords.{bit_at, down, bits_down, bits_shr, length_bits, bits_mod, bits_num, bits_xor, ⊞-append, select_append}
 
 -- ---- halves that are held turned left by one place
@@ -49,11 +50,11 @@ sp_low : (j x : ℕ) → sp_bits j (x % 64) ≡ sp_bits j x
 unfolding sp_bits
 sp_low j x = ap (λ (l : List Bool). left_shift 1 (select P (among (4 * j) (28 - 4 * j) (substitute (box j) l)))) (bits_mod 6 6 x (le_refl 6))
 
-pub sp_pick : (t : List ℕ) (j x : ℕ) → SpTable t → j < 8 → bits 32 (get_or t (j * 64 + x % 64) 0) ≡ sp_bits j x
-sp_pick t j x h k =
+pub sp_pick : (j x : ℕ) → j < 8 → bits 32 (get_or SP (j * 64 + x % 64) 0) ≡ sp_bits j x
+sp_pick j x k =
     let e : (j * 64 + x % 64) / 64 ≡ j = omega arith in
     let o : (j * 64 + x % 64) % 64 ≡ x % 64 = omega arith in
-    ap (bits 32) (h.entry (j * 64 + x % 64) (omega arith))
+    ap (bits 32) (sp_entry (j * 64 + x % 64) (omega arith))
     ∙ ap₂ (λ (i y : ℕ). bits 32 (num (sp_bits i y))) e o
     ∙ bits_num 32 (sp_bits j (x % 64)) (length_sp j (x % 64))
     ∙ sp_low j x
@@ -236,83 +237,47 @@ mangle_word r k lk hk w b1 b2 b3 b4 b5 b6 b7 b8 p q e h1 h2 h3 h4 h5 h6 h7 h8 =
     ∙ ap₂ (λ (m n : ℕ). select P (substitute_all boxes (blocks_of (bit_xor m r) (bit_xor n w)))) p q
     ∙ ap (λ (l : List Bool). select P (substitute_all boxes l)) (sym (blocks r k w e))
 
--- ---- the loops
+-- ---- the rounds
 
 abbrev pub halves : List Bool → List Bool → Halves
 halves l r = record { L = l; R = r }
 
-abbrev pub state : ℕ → ℕ → Halves
-state l r = halves (held l) (held r)
-
--- i rounds are done: those that are left take l and r to what all of them make of l₀ and r₀
-abbrev pub Rounds : List (List Bool) → ℕ → ℕ → ℕ → ℕ → ℕ → Type 0
-Rounds ks l₀ r₀ l r i = iterations (drop i ks) (state l r) ≡ iterations ks (state l₀ r₀)
-
 -- one round on the words that hold the halves
-pub round_turn : (ks : List (List Bool)) (k : List Bool) (l r x : ℕ) → held x ≡ f (held r) k → iterations ks (state r (bit_xor l x)) ≡ iterations (k ∷ ks) (state l r)
-unfolding iterations round
-round_turn ks k l r x q = ap (λ (t : List Bool). iterations ks (halves (held r) t)) (held_xor l x ∙ ap (λ (t : List Bool). held l ⊞ t) q)
+pub round_word : (k : List Bool) (l r x : ℕ) → held x ≡ f (held r) k → holds r (bit_xor l x) ≡ round k (holds l r)
+unfolding round
+round_word k l r x q = ap (halves (held r)) (held_xor l x ∙ ap (λ (t : List Bool). held l ⊞ t) q)
 
-pub iterations_turn : (ks : List (List Bool)) (l₀ r₀ l r i x : ℕ) (k : List Bool) → Rounds ks l₀ r₀ l r i → i < length ks → get_or ks i [] ≡ k
-    → held x ≡ f (held r) k → Rounds ks l₀ r₀ r (bit_xor l x) (i + 1)
-iterations_turn ks l₀ r₀ l r i x k h b e q =
-    rw (add-one i)
-    (round_turn (drop (suc i) ks) k l r x q
-    ∙ ap (λ (t : List (List Bool)). iterations t (state l r)) (ap (λ (j : List Bool). j ∷ drop (suc i) ks) (sym e) ∙ sym (drop-cons ks i [] b))
-    ∙ h)
-
-pub iterations_done : (ks : List (List Bool)) (l₀ r₀ l r i : ℕ) → Rounds ks l₀ r₀ l r i → length ks ≤ i → state l r ≡ iterations ks (state l₀ r₀)
+pub no_iterations : (h : Halves) → h ≡ iterations [] h
 unfolding iterations
-iterations_done ks l₀ r₀ l r i h b = ap (λ (t : List (List Bool)). iterations t (state l r)) (sym (drop_of_length-le ks b)) ∙ h
+no_iterations h = refl
 
-pub crypt_word : (ks : List (List Bool)) (b : List Bool) (x l₀ r₀ l r : ℕ) (out : List ℕ) → bits 32 x ++ bits 32 (x / 2 ^ 32) ≡ select IP b
-    → held l₀ ≡ bits 32 x → held r₀ ≡ bits 32 (x / 2 ^ 32) → state l r ≡ iterations ks (state l₀ r₀)
-    → out ≡ to_bytes 8 (select IP⁻¹ (held r ++ held l)) → out ≡ to_bytes 8 (crypt ks b)
-unfolding crypt
-crypt_word ks b x l₀ r₀ l r out p hl hr e o =
-    let lo : List Bool = bits 32 x in
-    let hi : List Bool = bits 32 (x / 2 ^ 32) in
-    let first : held l₀ ≡ take 32 (select IP b) = hl ∙ sym (take_at lo hi 32 (length_bits 32 x)) ∙ ap (take 32) p in
-    let second : held r₀ ≡ drop 32 (select IP b) = hr ∙ sym (drop_at lo hi 32 (length_bits 32 x)) ∙ ap (drop 32) p in
-    o ∙ ap (λ (h : Halves). to_bytes 8 (select IP⁻¹ (h.R ++ h.L))) (e ∙ ap₂ (λ (a c : List Bool). iterations ks (halves a c)) first second)
+-- one round more
+iterations_snoc : (ks : List (List Bool)) (k : List Bool) (h : Halves) → iterations (ks ++ k ∷ []) h ≡ round k (iterations ks h)
+unfolding iterations
+iterations_snoc [] k h = refl
+iterations_snoc (x ∷ ks) k h = iterations_snoc ks k (round x h)
 
--- the keys in the order of the rounds, and in the other order
-pub key_at_lem : (ks : List ℕ) (i : ℕ) → i < length ks → get_or (map key_bits ks) i [] ≡ key_bits (get_or ks i 0)
-key_at_lem [] i h = absurd (not-suc-le-zero h)
-key_at_lem (k ∷ ks) zero h = refl
-key_at_lem (k ∷ ks) (suc i) h = key_at_lem ks i (le_of_suc-le-suc h)
+pub one_more : (ks : List ℕ) (k : ℕ) (start h next : Halves) → h ≡ iterations (map key_bits ks) start → next ≡ round (key_bits k) h
+    → next ≡ iterations (map key_bits (ks ++ k ∷ [])) start
+one_more ks k start h next e n =
+    n
+    ∙ ap (round (key_bits k)) e
+    ∙ sym (iterations_snoc (map key_bits ks) (key_bits k) start)
+    ∙ ap (λ (l : List (List Bool)). iterations l start) (sym (map-append key_bits ks (k ∷ [])))
 
-get_d_reverse : (l : List (List Bool)) (i : ℕ) → i < length l → get_or (reverse l) i [] ≡ get_or l (length l - 1 - i) []
-get_d_reverse [] i h = absurd (not-suc-le-zero h)
-get_d_reverse (x ∷ l) i h = ap (λ (t : List (List Bool)). get_or t i []) (reverse-cons x l) ∙ go (λ p. get_d_reverse l i p) (dec_lt i (length l))
-  where
-    go : (i < length l → get_or (reverse l) i [] ≡ get_or l (length l - 1 - i) []) → Dec (i < length l) → get_or (reverse l ++ (x ∷ [])) i [] ≡ get_or (x ∷ l) (suc (length l) - 1 - i) []
-    go rec (yes p) =
-        let e : suc (length l) - 1 - i ≡ suc (length l - 1 - i) = omega arith in
-        get_or-append (reverse l) (x ∷ []) [] i (rw (length-reverse l) p) ∙ rec p ∙ rw e
-    go rec (no p) =
-        let e : suc (length l) - 1 - i ≡ 0 = omega arith in
-        let n : length l ≡ i = omega arith in
-        get_or_at (reverse l) x [] [] i (length-reverse l ∙ n) ∙ rw e
+length_held : (x : ℕ) → length (held x) ≡ 32
+unfolding held left_shift down
+length_held x = ap (λ (l : List Bool). length (left_shift 31 l)) (bits_down 32 x)
 
-pub key_back : (ks : List ℕ) (n i : ℕ) → length ks ≡ suc n → i ≤ n → get_or (reverse (map key_bits ks)) i [] ≡ key_bits (get_or ks (n - i) 0)
-key_back ks n i e h =
-    let k : length (map key_bits ks) ≡ suc n = length-map ks key_bits ∙ e in
-    let j : length (map key_bits ks) - 1 - i ≡ n - i = omega arith in
-    get_d_reverse (map key_bits ks) i (omega arith)
-    ∙ ap (λ (m : ℕ). get_or (map key_bits ks) m []) j
-    ∙ key_at_lem ks (n - i) (omega arith)
+pub crypt_word : (ks block : List ℕ) (l₀ r₀ l r : ℕ) (out : List ℕ) → held l₀ ++ held r₀ ≡ select IP (to_bits block)
+    → holds l r ≡ iterations (map key_bits ks) (holds l₀ r₀) → out ≡ to_bytes 8 (select IP⁻¹ (held r ++ held l)) → out ≡ des_with ks block
+unfolding des_with crypt
+crypt_word ks block l₀ r₀ l r out p e o =
+    let first : held l₀ ≡ take 32 (select IP (to_bits block)) = sym (take_at (held l₀) (held r₀) 32 (length_held l₀)) ∙ ap (take 32) p in
+    let second : held r₀ ≡ drop 32 (select IP (to_bits block)) = sym (drop_at (held l₀) (held r₀) 32 (length_held l₀)) ∙ ap (drop 32) p in
+    o ∙ ap (λ (h : Halves). to_bytes 8 (select IP⁻¹ (h.R ++ h.L))) (e ∙ ap₂ (λ (a c : List Bool). iterations (map key_bits ks) (halves a c)) first second)
 
--- ---- a block under a key
-
-module _ (key b out : List ℕ) (ks : List (List Bool)) (k : ks ≡ KS (to_bits key)) where
-  pub encrypted : out ≡ to_bytes 8 (crypt ks (to_bits b)) → out ≡ des_encrypt key b
-  unfolding des_encrypt encipher
-  encrypted e = e ∙ ap (λ (t : List (List Bool)). to_bytes 8 (crypt t (to_bits b))) k
-
-  pub decrypted : out ≡ to_bytes 8 (crypt (reverse ks) (to_bits b)) → out ≡ des_decrypt key b
-  unfolding des_decrypt decipher
-  decrypted e = e ∙ ap (λ (t : List (List Bool)). to_bytes 8 (crypt (reverse t) (to_bits b))) k
+-- ---- triple DES
 
 module _ (key1 key2 b once twice out : List ℕ) where
   pub tdea2_encrypted : once ≡ des_encrypt key1 b → twice ≡ des_decrypt key2 once → out ≡ des_encrypt key1 twice → out ≡ tdea2_encrypt key1 key2 b

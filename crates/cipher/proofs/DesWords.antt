@@ -13,7 +13,9 @@ use lib.Bits.{bit_and, bit_xor}
 use lib.ListN.{length, get_or}
 use lib.Seq.{take_at, drop_at}
 use Rattle.cipher.specs.Bits.{bool, bits, num, differs, to_bits, to_bytes}
-use Rattle.cipher.specs.Bytes.{tab}
+use Rattle.std.specs.Int.{from_le_bytes, to_le_bytes}
+use mir.Syntax.{w64}
+use Rattle.cipher.specs.Bytes.{Bytes, tab}
 use Rattle.cipher.specs.Fips46.{select, left_shift, IP, IP⁻¹}
 use Rattle.cipher.specs.inner.DesTables.{delta_swap, transposed, held}
 use Rattle.cipher.proofs.BitWords.{bit_at, down, down_ext, bits_down, bits_shr, length_bits, bits_mod, bit_shr, bit_xor_lem, bit_and_lem, bit_high, under, if_set, up}
@@ -190,24 +192,24 @@ last_word l r l1 r1 x y z w b p q h u v e t o =
 
 -- ---- bytes of a word
 
-byte_on : (n x v y : ℕ) (l : List Bool) → y < 2 ^ n → (x ≡ v) × (x < 256) → bits n y ≡ l → bits (8 + n) (x * 2 ^ n + y) ≡ bits 8 v ++ l
-byte_on n x v y l h e k = bits_join 8 n x y h ∙ ap₂ (λ (a : ℕ) (t : List Bool). bits 8 a ++ t) e.0 k
+byte_on : (n x y : ℕ) (l : List Bool) → y < 2 ^ n → bits n y ≡ l → bits (8 + n) (x * 2 ^ n + y) ≡ bits 8 x ++ l
+byte_on n x y l h k = bits_join 8 n x y h ∙ ap (λ (t : List Bool). bits 8 x ++ t) k
 
-pub load_word : (b : List ℕ) (x0 x1 x2 x3 x4 x5 x6 x7 : ℕ) → length b ≡ 8
-    → (x0 ≡ get_or b 0 0) × (x0 < 256) → (x1 ≡ get_or b 1 0) × (x1 < 256) → (x2 ≡ get_or b 2 0) × (x2 < 256) → (x3 ≡ get_or b 3 0) × (x3 < 256)
-    → (x4 ≡ get_or b 4 0) × (x4 < 256) → (x5 ≡ get_or b 5 0) × (x5 < 256) → (x6 ≡ get_or b 6 0) × (x6 < 256) → (x7 ≡ get_or b 7 0) × (x7 < 256)
-    → bits 64 (x7 * 2 ^ 56 + (x6 * 2 ^ 48 + (x5 * 2 ^ 40 + (x4 * 2 ^ 32 + (x3 * 2 ^ 24 + (x2 * 2 ^ 16 + (x1 * 2 ^ 8 + x0))))))) ≡ to_bits (reverse b)
-load_word b x0 x1 x2 x3 x4 x5 x6 x7 h e0 e1 e2 e3 e4 e5 e6 e7 =
-    byte_on 56 x7 _ _ _ (omega arith) e7
-    (byte_on 48 x6 _ _ _ (omega arith) e6
-    (byte_on 40 x5 _ _ _ (omega arith) e5
-    (byte_on 32 x4 _ _ _ (omega arith) e4
-    (byte_on 24 x3 _ _ _ (omega arith) e3
-    (byte_on 16 x2 _ _ _ (omega arith) e2
-    (byte_on 8 x1 _ _ _ (omega arith) e1 (ap (bits 8) e0.0 ∙ sym (append-nil (bits 8 (get_or b 0 0))))))))))
-    ∙ load_bits (λ i. get_or b i 0)
+pub load_word : (b : List ℕ) (x : ℕ) → length b ≡ 8 → Bytes b → x ≡ from_le_bytes w64 b → bits 64 x ≡ to_bits (reverse b)
+load_word b x h k e =
+    ap (bits 64) (e ∙ omega arith)
+    ∙ byte_on 56 (at 7) _ _ (omega arith)
+    (byte_on 48 (at 6) _ _ (omega arith)
+    (byte_on 40 (at 5) _ _ (omega arith)
+    (byte_on 32 (at 4) _ _ (omega arith)
+    (byte_on 24 (at 3) _ _ (omega arith)
+    (byte_on 16 (at 2) _ _ (omega arith) (byte_on 8 (at 1) _ _ (k 0) (sym (append-nil (bits 8 (at 0))))))))))
+    ∙ load_bits at
     ∙ ap (λ (l : List ℕ). to_bits (reverse l)) (sym (listed 8 b h))
   where
+    at : ℕ → ℕ
+    at i = get_or b i 0
+
     load_bits : (g : ℕ → ℕ)
         → bits 8 (g 7) ++ (bits 8 (g 6) ++ (bits 8 (g 5) ++ (bits 8 (g 4) ++ (bits 8 (g 3) ++ (bits 8 (g 2) ++ (bits 8 (g 1) ++ (bits 8 (g 0) ++ [])))))))
         ≡ to_bits (reverse (tab 8 g))
@@ -220,18 +222,15 @@ byte_off n k x l e =
     ∙ ap₂ ◌∷◌ (ap num (take_at (bits 8 (x / 2 ^ k)) (bits k x) 8 (length_bits 8 _)) ∙ num_low 8 (x / 2 ^ k))
     (ap (to_bytes n) (drop_at (bits 8 (x / 2 ^ k)) (bits k x) 8 (length_bits 8 _)) ∙ e)
 
-pub store_word : (x : ℕ) → x < 2 ^ 64
-    → x % 2 ^ 8 ∷ x / 2 ^ 8 % 2 ^ 8 ∷ x / 2 ^ 16 % 2 ^ 8 ∷ x / 2 ^ 24 % 2 ^ 8 ∷ x / 2 ^ 32 % 2 ^ 8 ∷ x / 2 ^ 40 % 2 ^ 8 ∷ x / 2 ^ 48 % 2 ^ 8 ∷ x / 2 ^ 56 ∷ []
-    ≡ reverse (to_bytes 8 (bits 64 x))
-store_word x h =
-    let top : x / 2 ^ 56 % 256 ≡ x / 2 ^ 56 = omega arith in
+pub store_word : (x : ℕ) → to_le_bytes w64 x ≡ reverse (to_bytes 8 (bits 64 x))
+store_word x =
     sym
     (ap reverse
     (byte_off 7 56 x _
     (byte_off 6 48 x _ (byte_off 5 40 x _ (byte_off 4 32 x _ (byte_off 3 24 x _ (byte_off 2 16 x _ (byte_off 1 8 x _ (byte_off 0 0 x [] none))))))))
-    ∙ ap₂
-    (λ (a b : ℕ). a % 256 ∷ x / 2 ^ 8 % 256 ∷ x / 2 ^ 16 % 256 ∷ x / 2 ^ 24 % 256 ∷ x / 2 ^ 32 % 256 ∷ x / 2 ^ 40 % 256 ∷ x / 2 ^ 48 % 256 ∷ b ∷ [])
-    (div-one x) top)
+    ∙ ap
+    (λ (a : ℕ). a % 256 ∷ x / 2 ^ 8 % 256 ∷ x / 2 ^ 16 % 256 ∷ x / 2 ^ 24 % 256 ∷ x / 2 ^ 32 % 256 ∷ x / 2 ^ 40 % 256 ∷ x / 2 ^ 48 % 256 ∷ x / 2 ^ 56 % 256 ∷ [])
+    (div-one x))
   where
     none : to_bytes 0 (bits 0 x) ≡ []
     none = unfold to_bytes in refl

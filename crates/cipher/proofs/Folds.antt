@@ -1,57 +1,68 @@
 -- The laws of the folds (specs/Fold), over any block cipher and any width above 0. Assumes nothing.
 use mathlib.Core.Path.{◌≡◌, refl, sym, ap, ◌∙◌}
-use mathlib.Core.List.{List, [], ◌∷◌, map}
-use Prim.Native.Nat.{ℕ, zero, suc, ◌+◌, ◌-◌, ◌*◌, ◌/◌, ◌≤◌, ◌<◌}
-use native.Mathlib.Nat.{sub-zero, suc-mul, div-eq-sub-div, div-eq_of_lt, mul-div_cancel}
+use mathlib.Core.List.{List, [], ◌∷◌, ◌++◌, map, reverse, reverse-cons}
+use Prim.Native.Nat.{ℕ, zero, suc, ◌+◌, ◌*◌, ◌/◌, ◌≤◌, ◌<◌}
+use native.Mathlib.Nat.{suc-mul, mul-div_cancel, div-eq_of_lt}
 use native.Mathlib.Numerals.{add-one}
 use native.Mathlib.Omega.{arith}
-use lib.ListN.{length, length-map, length-drop, take, drop}
-use lib.Seq.{drop-drop, length-take-le}
+use lib.ListN.{length, length-map, length-drop, take, drop, get_or}
+use lib.Seq.{length-take-le, take-suc}
+use Rattle.std.specs.List.{fold}
+use Rattle.std.specs.Simd.{first_chunks}
+use Rattle.std.proofs.lemmas.List.{map-append}
 use Rattle.cipher.specs.Fold.{under_from, under_each, back_from, under_each_back}
 use Rattle.cipher.proofs.ByteLists.{Block, Bytes-take, Bytes-drop}
 
-module _ (CIPH : List ℕ → List ℕ → List ℕ) (w : ℕ) where
-  -- a loop forward: what is left to do from the state s, with the keys from `at` on, gives the whole
-  pub record Under (keys s₀ s : List ℕ) (at : ℕ) : Type 0 where
-    pub within : at ≤ length keys
-    pub goal : under_from CIPH w s ((length keys - at) / w) (drop at keys) ≡ under_each CIPH w keys s₀
+-- ---- the folds as folds over the list of whole keys
+module _ (CIPH : List ℕ → List ℕ → List ℕ) where
+  abbrev pub Turn : List ℕ → List ℕ → List ℕ
+  Turn s key = CIPH key s
 
-  pub under_start : (keys s₀ : List ℕ) → Under keys s₀ s₀ 0
-  unfolding under_each
-  under_start keys s₀ = record { within = omega arith; goal = rw sub-zero }
+  fold_snoc : (s key : List ℕ) (keys : List (List ℕ)) → fold Turn s (keys ++ key ∷ []) ≡ CIPH key (fold Turn s keys)
+  fold_snoc s key [] = refl
+  fold_snoc s key (k ∷ keys) = fold_snoc (CIPH k s) key keys
 
-  pub under_step : {keys s₀ s : List ℕ} {at : ℕ} → 0 < w → Under keys s₀ s at → w ≤ length keys - at → (key t : List ℕ) → key ≡ take w (drop at keys) → t ≡ CIPH key s
-      → Under keys s₀ t (at + w)
-  unfolding under_from
-  under_step {keys} {s₀} {s} {at} p r h key t e f =
-      let n : length keys - at - w ≡ length keys - (at + w) = omega arith in
-      let m : (length keys - at) / w ≡ suc ((length keys - (at + w)) / w) = div-eq-sub-div p h ∙ add-one _ ∙ ap (λ (k : ℕ). suc (k / w)) n in
-      let g : under_from CIPH w (CIPH (take w (drop at keys)) s) ((length keys - (at + w)) / w) (drop w (drop at keys)) ≡ under_each CIPH w keys s₀ = rw m at r.goal in
-      record { within = omega arith; goal = rw (f, e) (rw drop-drop at g) }
+  -- a turn of a loop over the keys, and of one over an iterator
+  pub fold_more : (keys : List (List ℕ)) (i : ℕ) (s₀ s t key : List ℕ) → i < length keys → key ≡ get_or keys i key
+      → s ≡ fold Turn s₀ (take i keys) → t ≡ CIPH key s → t ≡ fold Turn s₀ (take (i + 1) keys)
+  fold_more keys i s₀ s t key h k e f =
+      f
+      ∙ ap (CIPH key) e
+      ∙ sym (fold_snoc s₀ key (take i keys))
+      ∙ ap (λ (l : List (List ℕ)). fold Turn s₀ (take i keys ++ l)) (ap (λ (x : List ℕ). x ∷ []) k)
+      ∙ ap (fold Turn s₀) (sym (take-suc keys i key h) ∙ ap (λ (n : ℕ). take n keys) (sym (add-one i)))
 
-  pub under_done : {keys s₀ s : List ℕ} {at : ℕ} → Under keys s₀ s at → length keys - at < w → s ≡ under_each CIPH w keys s₀
-  unfolding under_from
-  under_done r h = rw (div-eq_of_lt h) at r.goal
+  pub fold_next : {A : Type 0} (v : A → List ℕ) (xs : List A) (x : A) (s₀ s t : List ℕ) → s ≡ fold Turn s₀ (map v xs) → t ≡ CIPH (v x) s
+      → t ≡ fold Turn s₀ (map v (xs ++ x ∷ []))
+  fold_next v xs x s₀ s t e f =
+      f ∙ ap (CIPH (v x)) e ∙ sym (fold_snoc s₀ (v x) (map v xs)) ∙ ap (fold Turn s₀) (sym (map-append v xs (x ∷ [])))
 
-  -- a loop backward: s is what the keys from `at` on give
-  pub record Back (keys s₀ s : List ℕ) (at : ℕ) : Type 0 where
-    pub is : s ≡ back_from CIPH w s₀ ((length keys - at) / w) (drop at keys)
+  module _ (w : ℕ) where
+    under_chunks : (n : ℕ) (s keys : List ℕ) → fold Turn s (first_chunks w n keys) ≡ under_from CIPH w s n keys
+    unfolding under_from
+    under_chunks zero s keys = refl
+    under_chunks (suc n) s keys = under_chunks n (CIPH (take w keys) s) (drop w keys)
 
-  pub back_start : (keys s₀ : List ℕ) (at : ℕ) → length keys - at < w → Back keys s₀ s₀ at
-  unfolding back_from
-  back_start keys s₀ at h = record { is = rw (div-eq_of_lt h) }
+    pub under_whole : (s keys : List ℕ) → fold Turn s (first_chunks w (length keys / w) keys) ≡ under_each CIPH w keys s
+    unfolding under_each
+    under_whole s keys = under_chunks (length keys / w) s keys
 
-  pub back_step : {keys s₀ s : List ℕ} {at : ℕ} → 0 < w → Back keys s₀ s (at + w) → at + w ≤ length keys → (key t : List ℕ) → key ≡ take w (drop at keys) → t ≡ CIPH key s
-      → Back keys s₀ t at
-  unfolding back_from
-  back_step {keys} {s₀} {s} {at} p r h key t e f =
-      let n : length keys - at - w ≡ length keys - (at + w) = omega arith in
-      let m : (length keys - at) / w ≡ suc ((length keys - (at + w)) / w) = div-eq-sub-div p (omega arith) ∙ add-one _ ∙ ap (λ (k : ℕ). suc (k / w)) n in
-      record { is = f ∙ rw (m, e, drop-drop, ← r.is) }
+    -- under no key
+    pub under_none : (s : List ℕ) → 0 < w → under_each CIPH w [] s ≡ s
+    unfolding under_each under_from
+    under_none s h = rw (div-eq_of_lt h)
 
-  pub back_done : {keys s₀ s : List ℕ} → Back keys s₀ s 0 → s ≡ under_each_back CIPH w keys s₀
-  unfolding under_each_back
-  back_done r = r.is ∙ rw sub-zero
+    back_chunks : (n : ℕ) (s keys : List ℕ) → fold Turn s (reverse (first_chunks w n keys)) ≡ back_from CIPH w s n keys
+    unfolding back_from
+    back_chunks zero s keys = refl
+    back_chunks (suc n) s keys =
+        ap (fold Turn s) (reverse-cons (take w keys) (first_chunks w n (drop w keys)))
+        ∙ fold_snoc s (take w keys) (reverse (first_chunks w n (drop w keys)))
+        ∙ ap (CIPH (take w keys)) (back_chunks n s (drop w keys))
+
+    pub back_whole : (s keys : List ℕ) → fold Turn s (reverse (first_chunks w (length keys / w) keys)) ≡ under_each_back CIPH w keys s
+    unfolding under_each_back
+    back_whole s keys = back_chunks (length keys / w) s keys
 
 -- ---- what a cipher keeps, the folds keep
 module _ (E : List ℕ → List ℕ → List ℕ) (w : ℕ) (Good : List ℕ → Type 0) (stays : (k b : List ℕ) → Good b → Good (E k b)) where

@@ -14,11 +14,10 @@
 -- Copies: copies into and out of a part of a list
 -- DesInverse: DES deciphers what it enciphers, and the other way round; triple DES too
 -- DesKeys: the DES key schedule on words
--- DesOnce: the DES rounds with each round key made in its round
--- DesPc2: the numbers of the table PC2 follow their rule
--- DesRounds: the function f on words, and the loops over the sixteen rounds
+-- DesPc2: the numbers of the table PC2_ENTRIES follow their rule
+-- DesRounds: the function f on words, and the rounds over a list of round keys
 -- DesSp: the numbers of the table SP follow their rule
--- DesWiths: DES under the round keys of a key is DES under the key
+-- DesWiths: DES under the round keys of a key is DES under the key; the items that an iterator gave, as a list
 -- DesWords: blocks as words; the exchanges of bits that make IP and its inverse
 -- Filling: a list that a loop fills from its front
 -- Folds: a block under each key of a string, and the way back
@@ -28,6 +27,7 @@
 -- Modes: a turn of each mode's loop
 -- Numbers: facts about numbers
 -- Parity: DES never sees the lowest bit of a key's byte
+-- Subkeys: the next subkey of CMAC by arithmetic on a number of 128 bits
 -- Table: a table's rule at all of its entries, by one computed test
 -- Tabulation: `tab`, the list of f 0, f 1, ..
 -- Words: the bytes of words of 32 bits
@@ -48,7 +48,6 @@ pub mod Compare
 pub mod Copies
 pub mod DesInverse
 pub mod DesKeys
-pub mod DesOnce
 pub mod DesPc2
 pub mod DesRounds
 pub mod DesSp
@@ -62,6 +61,7 @@ pub mod ModeLaws
 pub mod Modes
 pub mod Numbers
 pub mod Parity
+pub mod Subkeys
 pub mod Table
 pub mod Tabulation
 pub mod Words

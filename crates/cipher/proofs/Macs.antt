@@ -2,28 +2,18 @@
 use mathlib.Core.Path.{◌≡◌, refl, sym, ap, ap₂, ◌∙◌}
 use mathlib.Core.List.{List, [], ◌∷◌, ◌++◌, append-nil}
 use mathlib.Core.Logic.{⊎_elim}
-use Prim.Native.Nat.{ℕ, zero, suc, ◌+◌, ◌-◌, ◌*◌, ◌/◌, ◌%◌, ◌≤◌, ◌<◌}
-use native.Mathlib.Nat.{sub-zero, eq-zero-or-pos}
+use Prim.Native.Nat.{ℕ, zero, suc, ◌+◌, ◌-◌, ◌*◌, ◌≤◌, ◌<◌}
+use native.Mathlib.Nat.{mul-zero, mul-suc, sub-zero, eq-zero-or-pos}
 use native.Mathlib.Omega.{arith}
-use lib.ListN.{length, take, drop, set, get_or, replicate, length-append, length-drop, length-replicate}
-use lib.Seq.{take_all, drop-drop, take_at, drop_at, set_at}
+use lib.ListN.{length, take, drop, set, get_or, replicate, length-append}
+use Rattle.std.specs.Simd.{first_chunks}
+use Rattle.std.proofs.lemmas.List.{drop-take}
+use lib.Seq.{take-take, drop-drop, take_at, drop_at, set_at}
 use Rattle.cipher.specs.Bytes.{◌⊕◌}
 use Rattle.cipher.specs.Sp80038a.{blocks}
-use Rattle.cipher.specs.Sp80038b.{shift_left, double, K1, K2, last_block, mac_from, cmac}
-use Rattle.cipher.proofs.Tabulation.{length_tab, get_or_tab}
-use Rattle.cipher.proofs.Filling.{Filled, fill_step}
+use Rattle.cipher.specs.Sp80038b.{double, K1, K2, last_block, mac_from, cmac}
 use Rattle.cipher.proofs.Xor.{zeros-⊕}
 use Rattle.cipher.proofs.Chains.{blocks_none, blocks_more}
-
-pub length_shift_left : (w : ℕ) (x : List ℕ) → length (shift_left w x) ≡ w
-unfolding shift_left
-length_shift_left w x = length_tab w _
-
--- a turn of the loop that shifts: low is the byte after the i-th, b the byte made of both
-pub shift_turn : (w : ℕ) (x : List ℕ) {d₀ d : List ℕ} {i : ℕ} → Filled (shift_left w x) d₀ d i → i < length (shift_left w x) → (low b : ℕ) → low ≡ get_or x (i + 1) 0
-    → b ≡ get_or x i 0 * 2 % 256 + low / 128 → Filled (shift_left w x) d₀ (set d i b) (i + 1)
-unfolding shift_left
-shift_turn w x {d₀} {d} {i} r h low b e f = fill_step r h b (f ∙ rw e (sym (get_or_tab w _ i (rw length_tab at h))))
 
 pub drop_replicate : (n m : ℕ) (a : ℕ) → drop n (replicate m a) ≡ replicate (m - n) a
 drop_replicate zero m a = rw sub-zero
@@ -37,17 +27,19 @@ padded_is w m out h e =
     ap (λ (l : List ℕ). set l (length m) 128) (e ∙ ap (λ (l : List ℕ). m ++ l) (drop_replicate (length m) w 0 ∙ ap (λ (k : ℕ). replicate k 0) n))
     ∙ set_at m 0 (replicate (w - 1 - length m) 0) 128 (length m) refl
 
--- the same for the tail of s from `at` on, as a slice of its own
-pub tail_padded : (s out : List ℕ) (at w : ℕ) → at ≤ length s → length s < at + w
-    → out ≡ take (length {A = ℕ} (replicate w 0)) (take (length s - at) (drop at s)) ++ drop (length (take (length s - at) (drop at s))) (replicate w 0)
-    → set out (length s - at) 128 ≡ drop at s ++ 128 ∷ replicate (w - 1 - (length s - at)) 0
-tail_padded s out at w h l e =
-    let n : length (drop at s) ≡ length s - at = length-drop at s in
-    let k : length (drop at s) ≤ length s - at = omega arith in
-    let t : take (length s - at) (drop at s) ≡ drop at s = take_all (length s - at) (drop at s) k in
-    let j : length (drop at s) ≤ w = omega arith in
-    let u : out ≡ drop at s ++ drop (length (drop at s)) (replicate w 0) = rw (t, length-replicate w, take_all w (drop at s) j) at e in
-    rw (← n) (padded_is w (drop at s) out (omega arith) u)
+-- block i of those that the front of m is cut into, k blocks long
+chunk_at : (w k i : ℕ) (m : List ℕ) → i < k → get_or (first_chunks w k m) i [] ≡ take w (drop (w * i) m)
+chunk_at w zero i m h = absurd (omega arith)
+chunk_at w (suc k) zero m h = rw mul-zero
+chunk_at w (suc k) (suc i) m h =
+    let e : w * suc i ≡ w + w * i = omega (arith, mul-suc w i) in
+    chunk_at w k i (drop w m) (omega arith) ∙ rw (e, ← drop-drop)
+
+pub front_block : (k i : ℕ) (m : List ℕ) → i < k → get_or (first_chunks 16 k (take (k * 16) m)) i [] ≡ take 16 (drop (16 * i) m)
+front_block k i m h =
+    let e : k * 16 ≡ 16 * i + 16 * (k - i) = omega arith in
+    chunk_at 16 k i (take (k * 16) m) h
+    ∙ rw e (ap (take 16) (drop-take (16 * i) (16 * (k - i)) m) ∙ take-take 16 (16 * (k - i)) (drop (16 * i) m) (omega arith))
 
 pub blocks_one : (w n : ℕ) → 0 < w → n ≤ w → blocks w n - 1 ≡ 0
 blocks_one w n p h =
@@ -78,11 +70,11 @@ module _ (CIPH : List ℕ → List ℕ) (w Rb : ℕ) (pos : 0 < w) where
 
   -- the last block, whole or not, goes in
   pub mac_done : {m s₀ s : List ℕ} {at : ℕ} → Mac m s₀ s at → length m - at ≤ w → (last x r : List ℕ)
-      → last ≡ last_block CIPH w Rb (w - (length m - at)) (drop at m) → x ≡ s ⊕ last → r ≡ CIPH x → r ≡ mac_from CIPH w Rb s₀ (blocks w (length m) - 1) m
+      → last ≡ last_block CIPH w Rb (w - length (drop at m)) (drop at m) → x ≡ s ⊕ last → r ≡ CIPH x → r ≡ mac_from CIPH w Rb s₀ (blocks w (length m) - 1) m
   unfolding mac_from
   mac_done {m} {s₀} {s} {at} r h last x y e f g =
       let z : CIPH (s ⊕ last_block CIPH w Rb (w - length (drop at m)) (drop at m)) ≡ mac_from CIPH w Rb s₀ (blocks w (length m) - 1) m = rw (blocks_one w (length m - at) pos h) at r.goal in
-      g ∙ rw (f, e) (rw (length-drop at m) at z)
+      g ∙ rw (f, e) z
 
   -- what the cipher always gives, a MAC is
   module _ (Good : List ℕ → Type 0) (gives : (b : List ℕ) → Good (CIPH b)) where
@@ -118,17 +110,16 @@ module _ (CIPH : List ℕ → List ℕ) (w Rb : ℕ) (pos : 0 < w) where
       (drop_at first m w l))
 
   -- the last block as the code makes it
-  module _ (s : List ℕ) (at : ℕ) {l k1 : List ℕ} (is-l : l ≡ CIPH (replicate w 0)) (is-k1 : k1 ≡ double w Rb l) where
-    pub last_whole : (block r : List ℕ) → length s - at ≡ w → block ≡ take w (drop at s) → r ≡ k1 ⊕ block → r ≡ last_block CIPH w Rb (w - (length s - at)) (drop at s)
+  module _ (m : List ℕ) {l k1 : List ℕ} (is-l : l ≡ CIPH (replicate w 0)) (is-k1 : k1 ≡ double w Rb l) where
+    pub last_whole : (block r : List ℕ) → length m ≡ w → block ≡ m → r ≡ k1 ⊕ block → r ≡ last_block CIPH w Rb (w - length m) m
     unfolding last_block K1
     last_whole block r h e f =
-        let z : w - (length s - at) ≡ 0 = omega arith in
-        let n : length (drop at s) ≤ w = rw length-drop (omega arith) in
-        f ∙ rw (z, e, take_all w (drop at s) n, is-k1, is-l)
+        let z : w - length m ≡ 0 = omega arith in
+        f ∙ rw (z, e, is-k1, is-l)
 
-    pub last_short : (k2 block r : List ℕ) → at ≤ length s → length s < at + w → k2 ≡ double w Rb k1
-        → block ≡ drop at s ++ 128 ∷ replicate (w - 1 - (length s - at)) 0 → r ≡ k2 ⊕ block → r ≡ last_block CIPH w Rb (w - (length s - at)) (drop at s)
+    pub last_short : (k2 block r : List ℕ) → length m < w → k2 ≡ double w Rb k1
+        → block ≡ m ++ 128 ∷ replicate (w - 1 - length m) 0 → r ≡ k2 ⊕ block → r ≡ last_block CIPH w Rb (w - length m) m
     unfolding last_block K1 K2
-    last_short k2 block r h j e f g =
-        let z : w - (length s - at) ≡ suc (w - 1 - (length s - at)) = omega arith in
+    last_short k2 block r h e f g =
+        let z : w - length m ≡ suc (w - 1 - length m) = omega arith in
         g ∙ rw (z, f, e, is-k1, is-l)

@@ -1,5 +1,5 @@
 -- From no standard: a block encrypted under each block of a string in turn, as a key, and the way back; over any block cipher, with keys of w
--- bytes. The DES MAC and the key chains of document 01 are such folds. Bytes after the last whole key play no part. Assumes nothing.
+-- bytes. FeliCa's DES MAC and its chains of keys are such folds. Bytes after the last whole key play no part. Assumes nothing.
 use Rattle.std.specs.Prelude.{ℕ, zero, suc, ◌/◌, List, length, take, drop}
 
 -- CIPH key block

@@ -1,351 +1,332 @@
 // AES-128 of FIPS 197, one block each way. The state is four words, one for each of its columns, row 0 highest.
-ghost use Rattle.std.specs.Prelude.{◌≡◌, [], ◌∷◌, map, ℕ, ◌<◌, length};
-ghost use Rattle.cipher.specs.Bytes.{◌⊕◌, word_bytes, words_bytes};
-ghost use Rattle.cipher.specs.Fips197.{xtime, s_box, sub_bytes, shift_rows, mix_columns, add_round_key, rot_word, key_expansion, round_key, cipher};
-ghost use Rattle.cipher.specs.Fips197.{inv_s_box, inv_rounds, inv_cipher, aes_encrypt, aes_decrypt};
-ghost use Rattle.cipher.specs.inner.AesTables.{diagonal, rot_right, mixed_column, NextKey, MixTable, TeTable, UTable, InvSTable};
+ghost use Rattle.std.specs.Prelude.{◌≡◌, ℕ, ◌+◌, ◌<◌, List, [], ◌∷◌, map};
+ghost use Rattle.cipher.specs.Bytes.{◌⊕◌, word_bytes};
+ghost use Rattle.cipher.specs.Fips197.{xtime, s_box, sub_bytes, shift_rows, mix_columns, add_round_key, rot_word, key_expansion, cipher};
+ghost use Rattle.cipher.specs.Fips197.{inv_s_box, inv_sub_bytes, inv_shift_rows, inv_mix_columns, inv_cipher, aes_encrypt, aes_decrypt};
+ghost use Rattle.cipher.specs.inner.AesTables.{multiples, mixed_column, rot_right, bytes_of, columns, RoundKeyOf};
+
+use std::marker::Model;
 
 // A state, or four words of the key schedule.
 #[derive(Clone, Copy)]
-pub(crate) struct Columns {
-    pub(crate) a: u32,
-    pub(crate) b: u32,
-    pub(crate) c: u32,
-    pub(crate) d: u32,
+struct Columns {
+    a: u32,
+    b: u32,
+    c: u32,
+    d: u32,
 }
 
-fn wide(x: u8) -> u32
-    ensures { result ≡ x }
-{
-    x as u32
+impl Columns {
+    fn load(block: [u8; 16]) -> Columns
+        ensures { bytes_of result ≡ block }
+    {
+        Columns {
+            a: word(block[0], block[1], block[2], block[3]),
+            b: word(block[4], block[5], block[6], block[7]),
+            c: word(block[8], block[9], block[10], block[11]),
+            d: word(block[12], block[13], block[14], block[15]),
+        }
+    }
+
+    fn store(self) -> [u8; 16]
+        ensures { result ≡ bytes_of self }
+    {
+        // all four in one array, which is faster here than one by one
+        let [a, b, c, d] = [
+            self.a.to_be_bytes(),
+            self.b.to_be_bytes(),
+            self.c.to_be_bytes(),
+            self.d.to_be_bytes(),
+        ];
+        [
+            a[0], a[1], a[2], a[3], b[0], b[1], b[2], b[3], c[0], c[1], c[2], c[3], d[0], d[1],
+            d[2], d[3],
+        ]
+    }
+
+    fn add_round_key(self, key: Columns) -> Columns
+        ensures { bytes_of result ≡ add_round_key (bytes_of self) (bytes_of key) }
+    {
+        Columns {
+            a: self.a ^ key.a,
+            b: self.b ^ key.b,
+            c: self.c ^ key.c,
+            d: self.d ^ key.d,
+        }
+    }
+
+    // The columns after ShiftRows.
+    fn shift_rows(self) -> [[u8; 4]; 4]
+        ensures { result ≡ columns (shift_rows (bytes_of self)) }
+    {
+        // each by itself, which is faster than all four in one array
+        let a = self.a.to_be_bytes();
+        let b = self.b.to_be_bytes();
+        let c = self.c.to_be_bytes();
+        let d = self.d.to_be_bytes();
+        [
+            [a[0], b[1], c[2], d[3]],
+            [b[0], c[1], d[2], a[3]],
+            [c[0], d[1], a[2], b[3]],
+            [d[0], a[1], b[2], c[3]],
+        ]
+    }
+
+    fn inv_shift_rows(self) -> [[u8; 4]; 4]
+        ensures { result ≡ columns (inv_shift_rows (bytes_of self)) }
+    {
+        let a = self.a.to_be_bytes();
+        let b = self.b.to_be_bytes();
+        let c = self.c.to_be_bytes();
+        let d = self.d.to_be_bytes();
+        [
+            [a[0], d[1], c[2], b[3]],
+            [b[0], a[1], d[2], c[3]],
+            [c[0], b[1], a[2], d[3]],
+            [d[0], c[1], b[2], a[3]],
+        ]
+    }
+
+    // SubBytes and ShiftRows.
+    fn sub_shift(self) -> Columns
+        ensures { bytes_of result ≡ shift_rows (sub_bytes (bytes_of self)) }
+    {
+        let [a, b, c, d] = self.shift_rows();
+        Columns {
+            a: sub_column(a),
+            b: sub_column(b),
+            c: sub_column(c),
+            d: sub_column(d),
+        }
+    }
+
+    // SubBytes, ShiftRows and MixColumns.
+    fn sub_shift_mix(self) -> Columns
+        ensures { bytes_of result ≡ mix_columns (shift_rows (sub_bytes (bytes_of self))) }
+    {
+        let [a, b, c, d] = self.shift_rows();
+        Columns {
+            a: sub_mix_column(a),
+            b: sub_mix_column(b),
+            c: sub_mix_column(c),
+            d: sub_mix_column(d),
+        }
+    }
+
+    // InvShiftRows and InvSubBytes.
+    fn inv_shift_sub(self) -> Columns
+        ensures { bytes_of result ≡ inv_sub_bytes (inv_shift_rows (bytes_of self)) }
+    {
+        let [a, b, c, d] = self.inv_shift_rows();
+        Columns {
+            a: inv_sub_column(a),
+            b: inv_sub_column(b),
+            c: inv_sub_column(c),
+            d: inv_sub_column(d),
+        }
+    }
+
+    fn inv_mix_columns(self) -> Columns
+        ensures { bytes_of result ≡ inv_mix_columns (bytes_of self) }
+    {
+        Columns {
+            a: inv_mix_column(self.a),
+            b: inv_mix_column(self.b),
+            c: inv_mix_column(self.c),
+            d: inv_mix_column(self.d),
+        }
+    }
 }
 
 // The word of four bytes.
-fn join(p: u8, q: u8, r: u8, s: u8) -> u32
+fn word(p: u8, q: u8, r: u8, s: u8) -> u32
     ensures { word_bytes result ≡ p ∷ q ∷ r ∷ s ∷ [] }
 {
-    wide(p) * 0x100_0000 + wide(q) * 0x1_0000 + wide(r) * 0x100 + wide(s)
+    u32::from_be_bytes([p, q, r, s])
 }
 
-// A block as four words, and back.
-fn load(b: [u8; 16]) -> Columns
-    ensures { words_bytes (result.a ∷ result.b ∷ result.c ∷ result.d ∷ []) ≡ b }
+// A column with each of its bytes replaced by the S-box.
+fn sub_column(column: [u8; 4]) -> u32
+    ensures { word_bytes result ≡ map s_box column }
 {
-    Columns {
-        a: join(b[0], b[1], b[2], b[3]),
-        b: join(b[4], b[5], b[6], b[7]),
-        c: join(b[8], b[9], b[10], b[11]),
-        d: join(b[12], b[13], b[14], b[15]),
+    let [p, q, r, s] = column;
+    word(s_box(p), s_box(q), s_box(r), s_box(s))
+}
+
+fn inv_sub_column(column: [u8; 4]) -> u32
+    ensures { word_bytes result ≡ map inv_s_box column }
+{
+    let [p, q, r, s] = column;
+    word(inv_s_box(p), inv_s_box(q), inv_s_box(r), inv_s_box(s))
+}
+
+// SubBytes and MixColumns of a column.
+fn sub_mix_column(column: [u8; 4]) -> u32
+    ensures { word_bytes result ≡ mixed_column 0x02 0x03 0x01 0x01 (map s_box column) }
+{
+    let [p, q, r, s] = column;
+    sum_by_rows(te(p), te(q), te(r), te(s))
+}
+
+fn inv_mix_column(column: u32) -> u32
+    ensures { word_bytes result ≡ mixed_column 0x0e 0x0b 0x0d 0x09 (word_bytes column) }
+{
+    let [p, q, r, s] = column.to_be_bytes();
+    sum_by_rows(u(p), u(q), u(r), u(s))
+}
+
+// The sum of what the bytes of a column give in a product with a circulant matrix: each byte's word is turned to the byte's row.
+fn sum_by_rows(p: u32, q: u32, r: u32, s: u32) -> u32
+    ensures { word_bytes result ≡ word_bytes p ⊕ rot_right (word_bytes q ⊕ rot_right (word_bytes r ⊕ rot_right (word_bytes s))) }
+{
+    p ^ (q ^ (r ^ s.rotate_right(8)).rotate_right(8)).rotate_right(8)
+}
+
+// A round key, and the power of x in the round constant of the next.
+#[derive(Clone, Copy)]
+struct RoundKey {
+    words: Columns,
+    power: u8,
+}
+
+impl RoundKey {
+    // The first is the key itself.
+    fn first(key: [u8; 16]) -> RoundKey
+        ensures { RoundKeyOf key 0 result }
+    {
+        RoundKey {
+            words: Columns::load(key),
+            power: 1,
+        }
     }
-}
 
-fn store(s: Columns) -> [u8; 16]
-    ensures { result ≡ words_bytes (s.a ∷ s.b ∷ s.c ∷ s.d ∷ []) }
-{
-    [
-        (s.a / 0x100_0000 % 0x100) as u8,
-        (s.a / 0x1_0000 % 0x100) as u8,
-        (s.a / 0x100 % 0x100) as u8,
-        (s.a % 0x100) as u8,
-        (s.b / 0x100_0000 % 0x100) as u8,
-        (s.b / 0x1_0000 % 0x100) as u8,
-        (s.b / 0x100 % 0x100) as u8,
-        (s.b % 0x100) as u8,
-        (s.c / 0x100_0000 % 0x100) as u8,
-        (s.c / 0x1_0000 % 0x100) as u8,
-        (s.c / 0x100 % 0x100) as u8,
-        (s.c % 0x100) as u8,
-        (s.d / 0x100_0000 % 0x100) as u8,
-        (s.d / 0x1_0000 % 0x100) as u8,
-        (s.d / 0x100 % 0x100) as u8,
-        (s.d % 0x100) as u8,
-    ]
-}
-
-// A rotation by 8 bits to the right, and to the left.
-fn rotated(x: u32) -> u32
-    ensures { word_bytes result ≡ rot_right (word_bytes x) }
-{
-    x / 0x100 + (x % 0x100) * 0x100_0000
-}
-
-fn rotated_left(x: u32) -> u32
-    ensures { word_bytes result ≡ rot_word (word_bytes x) }
-{
-    (x % 0x100_0000) * 0x100 + x / 0x100_0000
-}
-
-// One column of the product with the matrix that t is made of: each byte's word, rotated to the byte's row.
-fn column(t: &[u32], a: u32, b: u32, c: u32, d: u32) -> u32
-    requires { length t.now ≡ 256 }
-    ensures { (a0 a1 a2 a3 : ℕ) (f : ℕ → ℕ) → MixTable a0 a1 a2 a3 f t.now
-        → word_bytes result ≡ mixed_column a0 a1 a2 a3 (map f (diagonal a b c d)) }
-{
-    let s = t[(d % 0x100) as usize];
-    let r = t[(c / 0x100 % 0x100) as usize] ^ rotated(s);
-    let q = t[(b / 0x1_0000 % 0x100) as usize] ^ rotated(r);
-    t[(a / 0x100_0000 % 0x100) as usize] ^ rotated(q)
-}
-
-// The S-box of a byte of each word, from the table's second byte or third, whichever stands nearer.
-fn substituted(te: &[u32], a: u32, b: u32, c: u32, d: u32) -> u32
-    requires { TeTable te.now }
-    ensures { word_bytes result ≡ map s_box (diagonal a b c d) }
-{
-    let p = te[(a / 0x100_0000 % 0x100) as usize];
-    let q = te[(b / 0x1_0000 % 0x100) as usize];
-    let r = te[(c / 0x100 % 0x100) as usize];
-    let s = te[(d % 0x100) as usize];
-    p / 0x1_0000 % 0x100 * 0x100_0000
-        + q / 0x1_0000 % 0x100 * 0x1_0000
-        + r / 0x100 % 0x100 * 0x100
-        + s / 0x100 % 0x100
-}
-
-// AddRoundKey.
-fn added(s: Columns, k: Columns) -> Columns
-    ensures { words_bytes (result.a ∷ result.b ∷ result.c ∷ result.d ∷ []) ≡ add_round_key (words_bytes (s.a ∷ s.b ∷ s.c ∷ s.d ∷ [])) (words_bytes (k.a ∷ k.b ∷ k.c ∷ k.d ∷ [])) }
-{
-    Columns {
-        a: s.a ^ k.a,
-        b: s.b ^ k.b,
-        c: s.c ^ k.c,
-        d: s.d ^ k.d,
+    fn next(self) -> RoundKey
+        ensures { (key : List ℕ) (n : ℕ) → n < 10 → RoundKeyOf key n self → RoundKeyOf key (n + 1) result }
+    {
+        let k = self.words;
+        let a = k.a ^ sub_column(k.d.rotate_left(8).to_be_bytes()) ^ u32::from(self.power) << 24;
+        let b = k.b ^ a;
+        let c = k.c ^ b;
+        let d = k.d ^ c;
+        RoundKey {
+            words: Columns { a, b, c, d },
+            power: doubled(self.power),
+        }
     }
-}
-
-// A round of the cipher with MixColumns.
-fn round(te: &[u32], s: Columns, k: Columns) -> Columns
-    requires { TeTable te.now }
-    ensures { words_bytes (result.a ∷ result.b ∷ result.c ∷ result.d ∷ [])
-        ≡ add_round_key (mix_columns (shift_rows (sub_bytes (words_bytes (s.a ∷ s.b ∷ s.c ∷ s.d ∷ []))))) (words_bytes (k.a ∷ k.b ∷ k.c ∷ k.d ∷ [])) }
-{
-    let t = Columns {
-        a: column(te, s.a, s.b, s.c, s.d),
-        b: column(te, s.b, s.c, s.d, s.a),
-        c: column(te, s.c, s.d, s.a, s.b),
-        d: column(te, s.d, s.a, s.b, s.c),
-    };
-    added(t, k)
-}
-
-// Round key n of a key schedule.
-fn key_at(w: &[u32], n: usize) -> Columns
-    requires w_len { length w.now ≡ 44 }
-    requires n_bound { n < 11 }
-    ensures { words_bytes (result.a ∷ result.b ∷ result.c ∷ result.d ∷ []) ≡ round_key (words_bytes w.now) n }
-{
-    let m = 4 * n;
-    Columns {
-        a: w[m],
-        b: w[m + 1],
-        c: w[m + 2],
-        d: w[m + 3],
-    }
-}
-
-// The cipher of one block under a key schedule.
-pub(crate) fn encrypt_with(te: &[u32], w: &[u32], block: [u8; 16]) -> [u8; 16]
-    requires te_table { TeTable te.now }
-    requires w_len { length w.now ≡ 44 }
-    ensures { result ≡ cipher (words_bytes w.now) block }
-{
-    let mut s = added(load(block), key_at(w, 0));
-    let mut n = 0;
-    while n < 9 {
-        n += 1;
-        s = round(te, s, key_at(w, n));
-    }
-    let t = Columns {
-        a: substituted(te, s.a, s.b, s.c, s.d),
-        b: substituted(te, s.b, s.c, s.d, s.a),
-        c: substituted(te, s.c, s.d, s.a, s.b),
-        d: substituted(te, s.d, s.a, s.b, s.c),
-    };
-    store(added(t, key_at(w, 10)))
-}
-
-// The cipher of one block under a key that serves it alone: each round key is made in its round.
-pub(crate) fn encrypt_once(te: &[u32], block: [u8; 16], key: [u8; 16]) -> [u8; 16]
-    requires { TeTable te.now }
-    ensures { result ≡ aes_encrypt key block }
-{
-    let mut k = load(key);
-    let mut s = added(load(block), k);
-    let mut power = 1;
-    let mut n = 0usize;
-    while n < 9 {
-        k = next_key(te, k, power);
-        s = round(te, s, k);
-        power = doubled(power);
-        n += 1;
-    }
-    // made before the look-ups of the last round, which is faster
-    let last = next_key(te, k, power);
-    let t = Columns {
-        a: substituted(te, s.a, s.b, s.c, s.d),
-        b: substituted(te, s.b, s.c, s.d, s.a),
-        c: substituted(te, s.c, s.d, s.a, s.b),
-        d: substituted(te, s.d, s.a, s.b, s.c),
-    };
-    store(added(t, last))
-}
-
-// The round key after k. power is that of the round constant.
-fn next_key(te: &[u32], k: Columns, power: u32) -> Columns
-    requires te_table { TeTable te.now }
-    requires power_bound { power < 256 }
-    ensures { NextKey power k.a k.b k.c k.d result.a result.b result.c result.d }
-{
-    let t = rotated_left(k.d);
-    let a = k.a ^ substituted(te, t, t, t, t) ^ power * 0x100_0000;
-    let b = k.b ^ a;
-    let c = k.c ^ b;
-    let d = k.d ^ c;
-    Columns { a, b, c, d }
 }
 
 // The product of a byte and x.
-fn doubled(x: u32) -> u32
-    requires { x < 256 }
+fn doubled(x: u8) -> u8
     ensures { result ≡ xtime x }
 {
-    (x * 2 % 0x100) ^ (x / 0x80 % 2 * 0x1b)
+    (x << 1) ^ (x >> 7) * 0x1b
 }
 
-// The key schedule: the key's four words, and ten times four more.
-pub(crate) fn expand(te: &[u32], key: [u8; 16]) -> [u32; 44]
-    requires { TeTable te.now }
-    ensures { words_bytes result ≡ key_expansion key }
-{
-    let mut k = load(key);
-    let mut w = [0u32; 44];
-    w[0] = k.a;
-    w[1] = k.b;
-    w[2] = k.c;
-    w[3] = k.d;
-    let mut power = 1;
-    let mut n = 0;
-    while n < 10 {
-        k = next_key(te, k, power);
-        let m = 4 * n + 4;
-        w[m] = k.a;
-        w[m + 1] = k.b;
-        w[m + 2] = k.c;
-        w[m + 3] = k.d;
-        power = doubled(power);
-        n += 1;
+// The round keys of a key. In a clause it is the list of their bytes.
+#[derive(Drop)]
+pub(crate) struct KeySchedule {
+    round_keys: [Columns; 11],
+}
+
+impl Model for KeySchedule {
+    ghost use Rattle.std.specs.Prelude.{ℕ, List};
+
+    ghost Value = { List ℕ };
+
+    ghost use Rattle.std.specs.List.{flat_map};
+    ghost use Rattle.cipher.specs.inner.AesTables.{bytes_of};
+
+    ghost view = { λ s. flat_map bytes_of s.round_keys };
+}
+
+impl KeySchedule {
+    pub(crate) fn new(key: [u8; 16]) -> KeySchedule
+        ensures { result ≡ key_expansion key }
+    {
+        let mut key = RoundKey::first(key);
+        let mut round_keys = [key.words; 11];
+        for place in &mut round_keys[1..] {
+            key = key.next();
+            *place = key.words;
+        }
+        KeySchedule { round_keys }
     }
-    w
-}
 
-// The inverse S-box of a byte of each word.
-fn unsubstituted(si: &[u8], a: u32, b: u32, c: u32, d: u32) -> u32
-    requires { InvSTable si.now }
-    ensures { word_bytes result ≡ map inv_s_box (diagonal a b c d) }
-{
-    let p = si[(a / 0x100_0000 % 0x100) as usize];
-    let q = si[(b / 0x1_0000 % 0x100) as usize];
-    let r = si[(c / 0x100 % 0x100) as usize];
-    let s = si[(d % 0x100) as usize];
-    join(p, q, r, s)
-}
-
-// One column of a round of the inverse cipher, with its word of the round key.
-fn inv_column(u: &[u32], si: &[u8], a: u32, b: u32, c: u32, d: u32, k: u32) -> u32
-    requires u_table { UTable u.now }
-    requires inv_s_table { InvSTable si.now }
-    ensures { word_bytes result ≡ mixed_column 0x0e 0x0b 0x0d 0x09 (map inv_s_box (diagonal a b c d) ⊕ word_bytes k) }
-{
-    let e = unsubstituted(si, a, b, c, d) ^ k;
-    column(u, e, e, e, e)
-}
-
-// The state after the nine rounds with InvMixColumns, which take the round keys from 9 down to 1.
-fn inv_rounds(u: &[u32], si: &[u8], w: &[u32], block: [u8; 16]) -> Columns
-    requires u_table { UTable u.now }
-    requires inv_s_table { InvSTable si.now }
-    requires w_len { length w.now ≡ 44 }
-    ensures { words_bytes (result.a ∷ result.b ∷ result.c ∷ result.d ∷ []) ≡ inv_rounds (words_bytes w.now) block 9 }
-{
-    let s = load(block);
-    let mut a = s.a ^ w[40];
-    let mut b = s.b ^ w[41];
-    let mut c = s.c ^ w[42];
-    let mut d = s.d ^ w[43];
-    let mut n = 0;
-    while n < 9 {
-        let k = 36 - 4 * n;
-        let e = inv_column(u, si, a, d, c, b, w[k]);
-        let f = inv_column(u, si, b, a, d, c, w[k + 1]);
-        let g = inv_column(u, si, c, b, a, d, w[k + 2]);
-        let h = inv_column(u, si, d, c, b, a, w[k + 3]);
-        a = e;
-        b = f;
-        c = g;
-        d = h;
-        n += 1;
+    pub(crate) fn encrypt_block(&self, block: [u8; 16]) -> [u8; 16]
+        ensures { result ≡ cipher self.now block }
+    {
+        let mut state = Columns::load(block).add_round_key(self.round_keys[0]);
+        for key in &self.round_keys[1..10] {
+            state = state.sub_shift_mix().add_round_key(*key);
+        }
+        state.sub_shift().add_round_key(self.round_keys[10]).store()
     }
-    Columns { a, b, c, d }
+
+    pub(crate) fn decrypt_block(&self, block: [u8; 16]) -> [u8; 16]
+        ensures { result ≡ inv_cipher self.now block }
+    {
+        let mut state = Columns::load(block).add_round_key(self.round_keys[10]);
+        for key in self.round_keys[1..10].iter().rev() {
+            state = state.inv_shift_sub().add_round_key(*key).inv_mix_columns();
+        }
+        state
+            .inv_shift_sub()
+            .add_round_key(self.round_keys[0])
+            .store()
+    }
 }
 
-// The inverse cipher of one block under a key schedule.
-pub(crate) fn decrypt_with(u: &[u32], si: &[u8], w: &[u32], block: [u8; 16]) -> [u8; 16]
-    requires u_table { UTable u.now }
-    requires inv_s_table { InvSTable si.now }
-    requires w_len { length w.now ≡ 44 }
-    ensures { result ≡ inv_cipher (words_bytes w.now) block }
-{
-    let s = inv_rounds(u, si, w, block);
-    store(Columns {
-        a: unsubstituted(si, s.a, s.d, s.c, s.b) ^ w[0],
-        b: unsubstituted(si, s.b, s.a, s.d, s.c) ^ w[1],
-        c: unsubstituted(si, s.c, s.b, s.a, s.d) ^ w[2],
-        d: unsubstituted(si, s.d, s.c, s.b, s.a) ^ w[3],
-    })
-}
-
-// Each table is made once, here, and lent to what reads it: a constant is written out anew wherever it is named.
+// The key serves one block alone, so each round key is made in its round, which is faster than a schedule.
+// The loop is that of encrypt_block: one over any source of round keys would have to ask it for the first and the last by themselves.
 pub fn encrypt_aes128_block(data: [u8; 16], key: [u8; 16]) -> [u8; 16]
     ensures { result ≡ aes_encrypt key «data» }
 {
-    let te = te_table();
-    encrypt_once(&te, data, key)
+    let mut key = RoundKey::first(key);
+    let mut state = Columns::load(data).add_round_key(key.words);
+    for _ in 0..9usize {
+        key = key.next();
+        state = state.sub_shift_mix().add_round_key(key.words);
+    }
+    // made before the look-ups of the last round, which is faster
+    let last = key.next();
+    state.sub_shift().add_round_key(last.words).store()
 }
 
 pub fn decrypt_aes128_block(data: [u8; 16], key: [u8; 16]) -> [u8; 16]
     ensures { result ≡ aes_decrypt key «data» }
 {
-    let te = te_table();
-    let w = expand(&te, key);
-    let u = u_table();
-    let si = inv_s_table();
-    decrypt_with(&u, &si, &w, data)
+    KeySchedule::new(key).decrypt_block(data)
 }
 
 // ---- tables
 
-// The tables, for the outermost function of an operation to lend.
-pub(crate) fn te_table() -> [u32; 256]
-    ensures { TeTable result }
+fn te(x: u8) -> u32
+    ensures { word_bytes result ≡ multiples 0x02 0x03 0x01 0x01 (s_box x) }
 {
-    TE
+    TE[x as usize]
 }
 
-fn u_table() -> [u32; 256]
-    ensures { UTable result }
+// The second byte of the table's word.
+fn s_box(x: u8) -> u8
+    ensures { result ≡ s_box x }
 {
-    U
+    te(x).to_be_bytes()[1]
 }
 
-fn inv_s_table() -> [u8; 256]
-    ensures { InvSTable result }
+fn u(x: u8) -> u32
+    ensures { word_bytes result ≡ multiples 0x0e 0x0b 0x0d 0x09 x }
 {
-    INV_S
+    U[x as usize]
+}
+
+fn inv_s_box(x: u8) -> u8
+    ensures { result ≡ inv_s_box x }
+{
+    INV_S[x as usize]
 }
 
 // Word x is 02 S(x), S(x), S(x), 03 S(x), with S the S-box.
-const TE: [u32; 256] = [
+static TE: [u32; 256] = [
     0xc66363a5, 0xf87c7c84, 0xee777799, 0xf67b7b8d, 0xfff2f20d, 0xd66b6bbd, 0xde6f6fb1, 0x91c5c554,
     0x60303050, 0x02010103, 0xce6767a9, 0x562b2b7d, 0xe7fefe19, 0xb5d7d762, 0x4dababe6, 0xec76769a,
     0x8fcaca45, 0x1f82829d, 0x89c9c940, 0xfa7d7d87, 0xeffafa15, 0xb25959eb, 0x8e4747c9, 0xfbf0f00b,
@@ -381,7 +362,7 @@ const TE: [u32; 256] = [
 ];
 
 // Word x is 0e x, 09 x, 0d x, 0b x.
-const U: [u32; 256] = [
+static U: [u32; 256] = [
     0x00000000, 0x0e090d0b, 0x1c121a16, 0x121b171d, 0x3824342c, 0x362d3927, 0x24362e3a, 0x2a3f2331,
     0x70486858, 0x7e416553, 0x6c5a724e, 0x62537f45, 0x486c5c74, 0x4665517f, 0x547e4662, 0x5a774b69,
     0xe090d0b0, 0xee99ddbb, 0xfc82caa6, 0xf28bc7ad, 0xd8b4e49c, 0xd6bde997, 0xc4a6fe8a, 0xcaaff381,
@@ -417,7 +398,7 @@ const U: [u32; 256] = [
 ];
 
 // The inverse S-box.
-const INV_S: [u8; 256] = [
+static INV_S: [u8; 256] = [
     0x52, 0x09, 0x6a, 0xd5, 0x30, 0x36, 0xa5, 0x38, 0xbf, 0x40, 0xa3, 0x9e, 0x81, 0xf3, 0xd7, 0xfb,
     0x7c, 0xe3, 0x39, 0x82, 0x9b, 0x2f, 0xff, 0x87, 0x34, 0x8e, 0x43, 0x44, 0xc4, 0xde, 0xe9, 0xcb,
     0x54, 0x7b, 0x94, 0x32, 0xa6, 0xc2, 0x23, 0x3d, 0xee, 0x4c, 0x95, 0x0b, 0x42, 0xfa, 0xc3, 0x4e,

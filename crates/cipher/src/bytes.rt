@@ -1,5 +1,5 @@
 // Byte strings: copies, exclusive or, and a comparison that reads every byte.
-ghost use Rattle.std.specs.Prelude.{◌≡◌, true, ◌++◌, ◌+◌, ◌≤◌, min, length, take, drop, replicate};
+ghost use Rattle.std.specs.Prelude.{◌≡◌, true, ◌++◌, ◌+◌, ◌≤◌, length, take, drop, replicate};
 ghost use Rattle.cipher.specs.Bytes.{◌⊕◌};
 
 // Whether a and b are equal. Where they have one length, the work does not depend on where they differ.
@@ -9,103 +9,61 @@ pub fn ct_eq(a: &[u8], b: &[u8]) -> bool
     if a.len() != b.len() {
         return false;
     }
-    let mut diff: u8 = 0;
-    let mut i = 0;
-    while i < a.len() {
-        diff = diff | (a[i] ^ b[i]);
-        i += 1;
+    let mut diff = 0u8;
+    for (x, y) in a.iter().zip(b) {
+        diff |= x ^ y;
     }
     diff == 0
 }
 
-pub fn xor_blocks(a: [u8; 8], b: [u8; 8]) -> [u8; 8]
-    ensures { result ≡ a ⊕ b }
+pub fn xor_blocks<const N: usize>(a: [u8; N], b: [u8; N]) -> [u8; N]
+    ensures { result ≡ a.entry ⊕ b.entry }
 {
-    let mut out = [0u8; 8];
-    for i in 0..8 {
-        out[i] = a[i] ^ b[i];
-    }
+    let mut out = a;
+    xor_into(&mut out, &b);
     out
-}
-
-pub fn xor_blocks16(a: [u8; 16], b: [u8; 16]) -> [u8; 16]
-    ensures { result ≡ a ⊕ b }
-{
-    let mut out = [0u8; 16];
-    for i in 0..16 {
-        out[i] = a[i] ^ b[i];
-    }
-    out
-}
-
-fn least(a: usize, b: usize) -> usize
-    ensures { result ≡ min a b }
-{
-    if a < b { a } else { b }
 }
 
 // Copies src over the front of dst, as far as both reach.
 pub fn copy(src: &[u8], dst: &mut [u8])
     ensures { dst.new ≡ take (length dst.old) src.now ++ drop (length src.now) dst.old }
 {
-    let n = least(src.len(), dst.len());
-    let mut i = 0;
-    while i < n {
-        dst[i] = src[i];
-        i += 1;
-    }
+    let n = src.len().min(dst.len());
+    dst[..n].copy_from_slice(&src[..n]);
 }
 
 // Sets each byte of dst to value.
 pub fn fill(dst: &mut [u8], value: u8)
     ensures { dst.new ≡ replicate (length dst.old) value }
 {
-    let mut i = 0;
-    while i < dst.len() {
-        dst[i] = value;
-        i += 1;
-    }
+    dst.fill(value);
 }
 
-// The 8 bytes of s at index at.
-pub(crate) fn load8(s: &[u8], at: usize) -> [u8; 8]
-    requires { at + 8 ≤ length s.now }
-    ensures { result ≡ take 8 (drop at s.now) }
+// The N bytes of s at index at.
+pub(crate) fn load<const N: usize>(s: &[u8], at: usize) -> [u8; N]
+    requires { at + N ≤ length s.now }
+    ensures { result ≡ take N (drop at s.now) }
 {
-    let mut b = [0u8; 8];
-    let end = at + 8;
-    copy(&s[at..end], &mut b);
-    b
-}
-
-// The 16 bytes of s at index at.
-pub(crate) fn load16(s: &[u8], at: usize) -> [u8; 16]
-    requires { at + 16 ≤ length s.now }
-    ensures { result ≡ take 16 (drop at s.now) }
-{
-    let mut b = [0u8; 16];
-    let end = at + 16;
-    copy(&s[at..end], &mut b);
-    b
+    let mut block = [0u8; N];
+    block.copy_from_slice(&s[at..at + N]);
+    block
 }
 
 // Writes b into s at index at.
-pub(crate) fn store8(s: &mut [u8], at: usize, b: [u8; 8])
-    requires { at + 8 ≤ length s.old }
-    ensures { s.new ≡ take at s.old ++ b ++ drop (at + 8) s.old }
+pub(crate) fn store<const N: usize>(s: &mut [u8], at: usize, b: &[u8; N])
+    requires { at + N ≤ length s.old }
+    ensures { s.new ≡ take at s.old ++ b.now ++ drop (at + N) s.old }
 {
-    let end = at + 8;
-    copy(&b, &mut s[at..end]);
+    s[at..at + N].copy_from_slice(b);
 }
 
 // Adds the first bytes of b to those of s, as far as both reach.
-pub(crate) fn xor_into(s: &mut [u8], b: [u8; 16])
-    ensures { s.new ≡ (s.old ⊕ b) ++ drop 16 s.old }
+pub(crate) fn xor_into<const N: usize>(s: &mut [u8], b: &[u8; N])
+    ensures { s.new ≡ (s.old ⊕ b.now) ++ drop N s.old }
 {
-    let n = least(s.len(), 16);
-    let mut i = 0;
-    while i < n {
-        s[i] = s[i] ^ b[i];
-        i += 1;
+    // s goes by index, since std says nothing of what `iter_mut().zip(b)` wrote.
+    let n = s.len().min(N);
+    for (i, y) in b[..n].iter().enumerate() {
+        s[i] ^= y;
     }
 }

@@ -1,73 +1,51 @@
-// CBC with a zero IV (SP 800-38A, 6.2) over DES, in place.
-ghost use Rattle.std.specs.Prelude.{◌≡◌, ◌%◌, length, replicate};
-ghost use Rattle.cipher.specs.inner.DesTables.{SpTable};
-ghost use Rattle.cipher.specs.inner.DesWith.{des_with, des_back_with};
+// CBC with a zero IV (SP 800-38A, 6.2) over DES, in place. Blocks are read and written at an index: std says nothing of a slice's elements after
+// `chunks_exact_mut`. Each direction has its own loop: closures of one loop would need clauses of their own, and that loop one over any two functions.
+ghost use Rattle.std.specs.Prelude.{◌≡◌, replicate};
 ghost use Rattle.cipher.specs.Fips46.{des_encrypt, des_decrypt};
 ghost use Rattle.cipher.specs.Sp80038a.{cbc_encrypt, cbc_decrypt, whole, on_whole};
+ghost use Rattle.std.specs.Result.{is_ok};
 
-use crate::{bytes, des};
+use crate::bytes;
+use crate::des::KeySchedule;
 
-// Encrypts each block added to the one before it.
-fn encrypt_blocks(data: &mut [u8], sp: &[u32], ks: &[u64])
-    requires sp_table { SpTable sp.now }
-    requires ks_len { length ks.now ≡ 16 }
-    requires data_len { length «data».old % 8 ≡ 0 }
-    ensures { «data».new ≡ cbc_encrypt (des_with ks.now) 8 (replicate 8 0) «data».old }
+// Why CBC left data as it is: it was not a whole number of blocks.
+#[derive(Clone, Copy, Debug, PartialEq, Eq)]
+pub struct PartialBlock;
+
+// Encrypts data in place; what is not a whole number of blocks stays as it is.
+pub fn encrypt_des_cbc_zero_iv(data: &mut [u8], key: [u8; 8]) -> Result<(), PartialBlock>
+    ensures ok { is_ok result ≡ whole 8 «data».old }
+    ensures after { «data».new ≡ on_whole 8 (cbc_encrypt (des_encrypt key) 8 (replicate 8 0)) «data».old }
 {
+    if data.len() % 8 != 0 {
+        return Err(PartialBlock);
+    }
+    let keys = KeySchedule::new(key);
     let mut before = [0u8; 8];
-    let mut at = 0;
-    while at < data.len() {
-        let plain = bytes::load8(data, at);
-        let input = bytes::xor_blocks(plain, before);
-        let output = des::encrypt_with(sp, ks, input);
-        bytes::store8(data, at, output);
+    for at in (0..data.len()).step_by(8) {
+        let plain = bytes::load(data, at);
+        let output = keys.encrypt(bytes::xor_blocks(plain, before));
+        bytes::store(data, at, &output);
         before = output;
-        at += 8;
     }
+    Ok(())
 }
 
-// Decrypts each block and adds the one before it.
-fn decrypt_blocks(data: &mut [u8], sp: &[u32], ks: &[u64])
-    requires sp_table { SpTable sp.now }
-    requires ks_len { length ks.now ≡ 16 }
-    requires data_len { length «data».old % 8 ≡ 0 }
-    ensures { «data».new ≡ cbc_decrypt (des_back_with ks.now) 8 (replicate 8 0) «data».old }
+// Decrypts data in place; what is not a whole number of blocks stays as it is.
+pub fn decrypt_des_cbc_zero_iv(data: &mut [u8], key: [u8; 8]) -> Result<(), PartialBlock>
+    ensures ok { is_ok result ≡ whole 8 «data».old }
+    ensures after { «data».new ≡ on_whole 8 (cbc_decrypt (des_decrypt key) 8 (replicate 8 0)) «data».old }
 {
+    if data.len() % 8 != 0 {
+        return Err(PartialBlock);
+    }
+    let keys = KeySchedule::new(key);
     let mut before = [0u8; 8];
-    let mut at = 0;
-    while at < data.len() {
-        let sealed = bytes::load8(data, at);
-        let output = des::decrypt_with(sp, ks, sealed);
-        bytes::store8(data, at, bytes::xor_blocks(output, before));
+    for at in (0..data.len()).step_by(8) {
+        let sealed = bytes::load(data, at);
+        let output = keys.decrypt(sealed);
+        bytes::store(data, at, &bytes::xor_blocks(output, before));
         before = sealed;
-        at += 8;
     }
-}
-
-// Encrypts data in place and answers true; what is not a whole number of blocks gets false and stays as it is.
-pub fn encrypt_des_cbc_zero_iv(data: &mut [u8], key: [u8; 8]) -> bool
-    ensures { (result ≡ whole 8 «data».old) × («data».new ≡ on_whole 8 (cbc_encrypt (des_encrypt key) 8 (replicate 8 0)) «data».old) }
-{
-    if data.len() % 8 != 0 {
-        return false;
-    }
-    let sp = des::sp_table();
-    let pc2 = des::pc2_table();
-    let ks = des::schedule(&pc2, key);
-    encrypt_blocks(data, &sp, &ks);
-    true
-}
-
-// Decrypts data in place and answers true; what is not a whole number of blocks gets false and stays as it is.
-pub fn decrypt_des_cbc_zero_iv(data: &mut [u8], key: [u8; 8]) -> bool
-    ensures { (result ≡ whole 8 «data».old) × («data».new ≡ on_whole 8 (cbc_decrypt (des_decrypt key) 8 (replicate 8 0)) «data».old) }
-{
-    if data.len() % 8 != 0 {
-        return false;
-    }
-    let sp = des::sp_table();
-    let pc2 = des::pc2_table();
-    let ks = des::schedule(&pc2, key);
-    decrypt_blocks(data, &sp, &ks);
-    true
+    Ok(())
 }

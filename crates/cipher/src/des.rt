@@ -1,27 +1,24 @@
-// DES (FIPS 46-3): the key schedule and one block each way. The tables are lent, since each function that makes one writes it to its stack
-// anew.
-ghost use Rattle.std.specs.Prelude.{◌≡◌, ◌++◌, map, reverse, ◌+◌, ◌-◌, ◌*◌, ◌/◌, ◌%◌, ◌^◌, ◌<◌, length, get_or};
+// DES (FIPS 46-3): the key schedule and one block each way.
+ghost use Rattle.std.specs.Prelude.{◌≡◌, ◌++◌, map, reverse, ◌+◌, ◌-◌, ◌*◌, ◌/◌, ◌%◌, ◌^◌, ◌<◌, ◌≤◌, length, drop, get_or, ℕ, List};
+ghost use Rattle.std.specs.Iterator.{IsFinite, Drains, YieldsFirstBy, at_most};
 ghost use Rattle.cipher.specs.Bits.{bits, ◌⊞◌, to_bits, to_bytes};
-ghost use Rattle.cipher.specs.Fips46.{select, left_shift, f, shifts, KS, PC2, crypt, des_encrypt, des_decrypt};
-ghost use Rattle.cipher.specs.Fips46.{tdea2_encrypt, tdea2_decrypt, IP, IP⁻¹};
-ghost use Rattle.cipher.specs.inner.DesTables.{delta_swap, transposed, held, key_bits, SpTable, sp_bits, Pc2Table, pc2_bits};
+ghost use Rattle.cipher.specs.Fips46.{select, left_shift, f, shifts, round, keys_from, KS, PC1, PC2, IP, IP⁻¹, des_encrypt, des_decrypt};
+ghost use Rattle.cipher.specs.Fips46.{tdea2_encrypt, tdea2_decrypt};
+ghost use Rattle.cipher.specs.inner.DesTables.{delta_swap, transposed, held, holds, key_bits, sp_bits, pc2_bits};
+ghost use Rattle.cipher.specs.inner.DesWith.{des_with, des_back_with, keys_back};
 
 // ---- one block under a key
 
 pub fn encrypt_des_block(data: [u8; 8], key: [u8; 8]) -> [u8; 8]
     ensures { result ≡ des_encrypt key «data» }
 {
-    let sp = sp_table();
-    let pc2 = pc2_table();
-    encrypt_once(&sp, &pc2, data, key)
+    under_keys(RoundKeys::new(key), data)
 }
 
 pub fn decrypt_des_block(data: [u8; 8], key: [u8; 8]) -> [u8; 8]
     ensures { result ≡ des_decrypt key «data» }
 {
-    let sp = sp_table();
-    let pc2 = pc2_table();
-    decrypt_once(&sp, &pc2, data, key)
+    under_keys(RoundKeysBack::new(key), data)
 }
 
 // ---- triple DES with two keys
@@ -29,276 +26,312 @@ pub fn decrypt_des_block(data: [u8; 8], key: [u8; 8]) -> [u8; 8]
 pub fn encrypt_3des_block(data: [u8; 8], key1: [u8; 8], key2: [u8; 8]) -> [u8; 8]
     ensures { result ≡ tdea2_encrypt key1 key2 «data» }
 {
-    let sp = sp_table();
-    let pc2 = pc2_table();
-    let ks1 = schedule(&pc2, key1);
-    let ks2 = schedule(&pc2, key2);
-    let once = encrypt_with(&sp, &ks1, data);
-    let twice = decrypt_with(&sp, &ks2, once);
-    encrypt_with(&sp, &ks1, twice)
+    let first = KeySchedule::new(key1);
+    let second = KeySchedule::new(key2);
+    first.encrypt(second.decrypt(first.encrypt(data)))
 }
 
 pub fn decrypt_3des_block(data: [u8; 8], key1: [u8; 8], key2: [u8; 8]) -> [u8; 8]
     ensures { result ≡ tdea2_decrypt key1 key2 «data» }
 {
-    let sp = sp_table();
-    let pc2 = pc2_table();
-    let ks1 = schedule(&pc2, key1);
-    let ks2 = schedule(&pc2, key2);
-    let once = decrypt_with(&sp, &ks1, data);
-    let twice = encrypt_with(&sp, &ks2, once);
-    decrypt_with(&sp, &ks1, twice)
+    let first = KeySchedule::new(key1);
+    let second = KeySchedule::new(key2);
+    first.decrypt(second.encrypt(first.decrypt(data)))
 }
 
 // ---- the sixteen rounds
 
-// A block under the packed round keys ks, and back. The halves l and r are held turned left by one place, as SP has its entries.
-pub(crate) fn encrypt_with(sp: &[u32], ks: &[u64], block: [u8; 8]) -> [u8; 8]
-    requires sp_table { SpTable sp.now }
-    requires ks_len { length ks.now ≡ 16 }
-    ensures { result ≡ to_bytes 8 (crypt (map key_bits ks.now) (to_bits block)) }
+// A block under the packed round keys that an iterator gives.
+fn under_keys<I: Iterator<Item = u64>>(keys: I, block: [u8; 8]) -> [u8; 8]
+    requires can { I.can_next keys }
+    requires ends { IsFinite (I.remaining keys) }
+    ensures { (ks : List ℕ) × Drains I.next_gives keys ks × (result ≡ des_with ks block) }
 {
-    let x = initial(block);
-    let mut l = left(x);
-    let mut r = right(x);
-    let mut i = 0;
-    while i < 16 {
-        let next = l ^ mangle(sp, r, ks[i]);
-        l = r;
-        r = next;
-        i += 1;
+    let mut halves = Halves::of_block(block);
+    for key in keys {
+        halves = halves.round(key);
     }
-    last(l, r)
+    halves.into_block()
 }
 
-pub(crate) fn decrypt_with(sp: &[u32], ks: &[u64], block: [u8; 8]) -> [u8; 8]
-    requires sp_table { SpTable sp.now }
-    requires ks_len { length ks.now ≡ 16 }
-    ensures { result ≡ to_bytes 8 (crypt (reverse (map key_bits ks.now)) (to_bits block)) }
-{
-    let x = initial(block);
-    let mut l = left(x);
-    let mut r = right(x);
-    let mut i = 0;
-    while i < 16 {
-        let next = l ^ mangle(sp, r, ks[15 - i]);
-        l = r;
-        r = next;
-        i += 1;
-    }
-    last(l, r)
+// The halves of a block between two rounds, each turned left by one place, as SP has its entries.
+#[derive(Clone, Copy)]
+struct Halves {
+    l: u32,
+    r: u32,
 }
 
-// A block under a key that serves it alone, and back: each round key is made in its round, so that the processor makes the next ones while
-// it waits for a round.
-pub(crate) fn encrypt_once(sp: &[u32], pc2: &[u32], block: [u8; 8], key: [u8; 8]) -> [u8; 8]
-    requires sp_table { SpTable sp.now }
-    requires pc2_table { Pc2Table pc2.now }
-    ensures { result ≡ des_encrypt key block }
-{
-    let y = transpose(load(key));
-    let mut c = c0(y);
-    let mut d = d0(y);
-    let x = initial(block);
-    let mut l = left(x);
-    let mut r = right(x);
-    let mut i = 0;
-    while i < 16 {
-        c = shifted(c, i);
-        d = shifted(d, i);
-        let k = round_key(pc2, c, d);
-        let next = l ^ mangle(sp, r, k);
-        l = r;
-        r = next;
-        i += 1;
+impl Halves {
+    // The halves of a block after IP.
+    fn of_block(block: [u8; 8]) -> Halves
+        ensures { held result.l ++ held result.r ≡ select IP (to_bits block) }
+    {
+        let x = transpose(u64::from_le_bytes(block));
+        let y = delta_swap(x, 0xff00_ff00, 24);
+        let z = delta_swap(y, 0xff00_0000_ff00, 8);
+        Halves {
+            l: low(z).rotate_left(1),
+            r: high(z).rotate_left(1),
+        }
     }
-    last(l, r)
-}
 
-// C16 and D16 are C0 and D0, since the shifts make 28 places in all; from there C and D turn back.
-pub(crate) fn decrypt_once(sp: &[u32], pc2: &[u32], block: [u8; 8], key: [u8; 8]) -> [u8; 8]
-    requires sp_table { SpTable sp.now }
-    requires pc2_table { Pc2Table pc2.now }
-    ensures { result ≡ des_decrypt key block }
-{
-    let y = transpose(load(key));
-    let mut c = c0(y);
-    let mut d = d0(y);
-    let x = initial(block);
-    let mut l = left(x);
-    let mut r = right(x);
-    let mut i = 16;
-    while 0 < i {
-        i -= 1;
-        let k = round_key(pc2, c, d);
-        let next = l ^ mangle(sp, r, k);
-        l = r;
-        r = next;
-        c = shifted_back(c, i);
-        d = shifted_back(d, i);
+    fn round(self, key: u64) -> Halves
+        ensures { holds result.l result.r ≡ round (key_bits key) (holds self.l self.r) }
+    {
+        Halves {
+            l: self.r,
+            r: self.l ^ mangle(self.r, key),
+        }
     }
-    last(l, r)
+
+    // The block that IP takes to R and L.
+    fn into_block(self) -> [u8; 8]
+        ensures { result ≡ to_bytes 8 (select IP⁻¹ (held self.r ++ held self.l)) }
+    {
+        let x = joined(self.l.rotate_right(1), self.r.rotate_right(1));
+        let y = delta_swap(x, 0xff00_0000_ff00, 8);
+        let z = delta_swap(y, 0xff00_ff00, 24);
+        transpose(z).to_le_bytes()
+    }
 }
 
 // The function f of the right half and a round key. The six low bits of the bytes of r are the groups 2, 4, 6, 8 of E, and those of the
 // bytes of r turned right by four places the groups 1, 3, 5, 7.
-fn mangle(sp: &[u32], r: u32, k: u64) -> u32
-    requires { SpTable sp.now }
-    ensures { held result ≡ f (held r) (key_bits k) }
+fn mangle(r: u32, key: u64) -> u32
+    ensures { held result ≡ f (held r) (key_bits key) }
 {
-    let u = low(k) ^ r;
-    let v = high(k) ^ turn_right_4(r);
-    let b1 = pick(sp, 0, v / 0x100_0000);
-    let b2 = pick(sp, 1, u / 0x100_0000);
-    let b3 = pick(sp, 2, v / 0x1_0000);
-    let b4 = pick(sp, 3, u / 0x1_0000);
-    let b5 = pick(sp, 4, v / 0x100);
-    let b6 = pick(sp, 5, u / 0x100);
-    let b7 = pick(sp, 6, v);
-    let b8 = pick(sp, 7, u);
+    let u = low(key) ^ r;
+    let v = high(key) ^ r.rotate_right(4);
+    let b1 = pick(0, v / 0x100_0000);
+    let b2 = pick(1, u / 0x100_0000);
+    let b3 = pick(2, v / 0x1_0000);
+    let b4 = pick(3, u / 0x1_0000);
+    let b5 = pick(4, v / 0x100);
+    let b6 = pick(5, u / 0x100);
+    let b7 = pick(6, v);
+    let b8 = pick(7, u);
     b1 ^ (b2 ^ (b3 ^ (b4 ^ (b5 ^ (b6 ^ (b7 ^ b8))))))
 }
 
 // The entry of SP for box j at the six low bits of x.
-fn pick(sp: &[u32], j: usize, x: u32) -> u32
-    requires sp_table { SpTable sp.now }
-    requires j_bound { j < 8 }
+fn pick(j: usize, x: u32) -> u32
+    requires { j < 8 }
     ensures { bits 32 result ≡ sp_bits j x }
 {
-    sp[j * 64 + (x % 64) as usize]
-}
-
-// ---- the permutations IP and its inverse
-
-// The block after IP, with its right half above its left one.
-fn initial(block: [u8; 8]) -> u64
-    ensures { bits 32 result ++ bits 32 (result / 2 ^ 32) ≡ select IP (to_bits block) }
-{
-    let x = transpose(load(block));
-    let y = delta_swap(x, 0xff00_ff00, 24);
-    delta_swap(y, 0xff00_0000_ff00, 8)
-}
-
-// The block that IP takes to the halves r and l.
-fn last(l: u32, r: u32) -> [u8; 8]
-    ensures { result ≡ to_bytes 8 (select IP⁻¹ (held r ++ held l)) }
-{
-    let x = joined(turn_right_1(l), turn_right_1(r));
-    let y = delta_swap(x, 0xff00_0000_ff00, 8);
-    let z = delta_swap(y, 0xff00_ff00, 24);
-    store(transpose(z))
-}
-
-// The halves of x, each as it is held in the rounds.
-fn left(x: u64) -> u32
-    ensures { held result ≡ bits 32 x }
-{
-    turn_left_1(low(x))
-}
-
-fn right(x: u64) -> u32
-    ensures { held result ≡ bits 32 (x / 2 ^ 32) }
-{
-    turn_left_1(high(x))
+    SP[j * 64 + (x % 64) as usize]
 }
 
 // ---- the key schedule
 
 // The round keys of a key, packed.
-pub(crate) fn schedule(pc2: &[u32], key: [u8; 8]) -> [u64; 16]
-    requires { Pc2Table pc2.now }
-    ensures { map key_bits result ≡ KS (to_bits key) }
-{
-    let x = transpose(load(key));
-    let mut c = c0(x);
-    let mut d = d0(x);
-    let mut ks = [0u64; 16];
-    let mut i = 0;
-    while i < 16 {
-        c = shifted(c, i);
-        d = shifted(d, i);
-        ks[i] = round_key(pc2, c, d);
-        i += 1;
+#[derive(Drop)]
+pub(crate) struct KeySchedule {
+    keys: [u64; 16],
+}
+
+impl KeySchedule {
+    pub(crate) fn new(key: [u8; 8]) -> KeySchedule
+        ensures { map key_bits result.keys ≡ KS (to_bits key) }
+    {
+        let mut halves = KeyHalves::of_key(key);
+        let mut keys = [0u64; 16];
+        for (i, round_key) in keys.iter_mut().enumerate() {
+            halves = halves.shifted(i);
+            *round_key = halves.round_key();
+        }
+        KeySchedule { keys }
     }
-    ks
+
+    pub(crate) fn encrypt(&self, block: [u8; 8]) -> [u8; 8]
+        ensures { result ≡ des_with self.now.keys block }
+    {
+        under_keys(self.keys.iter().copied(), block)
+    }
+
+    pub(crate) fn decrypt(&self, block: [u8; 8]) -> [u8; 8]
+        ensures { result ≡ des_back_with self.now.keys block }
+    {
+        under_keys(self.keys.iter().rev().copied(), block)
+    }
 }
 
-// C0 and D0 of the transpose of a key, in which row 1 is the first bits of its bytes, last byte first: C0 is the first 28 bits, D0 the rows
-// 7, 6, 5 and the second half of row 4.
-fn c0(x: u64) -> u32
-    ensures { result ≡ x / 2 ^ 36 }
-{
-    (x / 0x10_0000_0000) as u32
+// The round keys of a key that serves one block, each made in its round: the processor makes the next ones while it waits for a round.
+#[derive(Drop)]
+struct RoundKeys {
+    halves: KeyHalves,
+    round: usize,
 }
 
-fn d0(x: u64) -> u32
-    ensures result_value { bits 28 result ≡ bits 8 (x / 2 ^ 8) ++ (bits 8 (x / 2 ^ 16) ++ (bits 8 (x / 2 ^ 24) ++ bits 4 (x / 2 ^ 32))) }
-    ensures upper_bound { result < 2 ^ 28 }
-{
-    ((x / 0x100 % 0x100) * 0x10_0000
-        + ((x / 0x1_0000 % 0x100) * 0x1000
-            + ((x / 0x100_0000 % 0x100) * 0x10 + x / 0x1_0000_0000 % 0x10))) as u32
+impl RoundKeys {
+    fn new(key: [u8; 8]) -> RoundKeys
+        ensures round { result.round ≡ 0 }
+        ensures keys { keys_from shifts (bits 28 result.halves.c) (bits 28 result.halves.d) ≡ KS (to_bits key) }
+    {
+        RoundKeys {
+            halves: KeyHalves::of_key(key),
+            round: 0,
+        }
+    }
 }
 
-// C or D of round i + 1, from that of the round before: one place in rounds 1, 2, 9 and 16, else two.
-fn shifted(c: u32, i: usize) -> u32
+impl Iterator for RoundKeys {
+    type Item = u64;
+
+    ghost can_next = { λ s. s.round ≤ 16 };
+
+    ghost next_gives = { YieldsFirstBy key_bits (λ s. keys_from (drop s.round shifts) (bits 28 s.halves.c) (bits 28 s.halves.d)) };
+
+    ghost remaining = { λ s. at_most (16 - s.round) };
+
+    fn next(&mut self) -> Option<u64> {
+        if self.round == 16 {
+            return None;
+        }
+        self.halves = self.halves.shifted(self.round);
+        self.round += 1;
+        Some(self.halves.round_key())
+    }
+}
+
+// The same from the last round key to the first: C16 and D16 are C0 and D0, since the shifts make 28 places in all.
+#[derive(Drop)]
+struct RoundKeysBack {
+    halves: KeyHalves,
+    left: usize,
+}
+
+impl RoundKeysBack {
+    fn new(key: [u8; 8]) -> RoundKeysBack
+        ensures left { result.left ≡ 16 }
+        ensures keys { keys_from shifts (bits 28 result.halves.c) (bits 28 result.halves.d) ≡ KS (to_bits key) }
+    {
+        RoundKeysBack {
+            halves: KeyHalves::of_key(key),
+            left: 16,
+        }
+    }
+}
+
+impl Iterator for RoundKeysBack {
+    type Item = u64;
+
+    ghost can_next = { λ s. s.left ≤ 16 };
+
+    ghost next_gives = { YieldsFirstBy key_bits (λ s. keys_back s.left (bits 28 s.halves.c) (bits 28 s.halves.d)) };
+
+    ghost remaining = { λ s. at_most s.left };
+
+    fn next(&mut self) -> Option<u64> {
+        if self.left == 0 {
+            return None;
+        }
+        self.left -= 1;
+        let key = self.halves.round_key();
+        self.halves = self.halves.shifted_back(self.left);
+        Some(key)
+    }
+}
+
+// C and D of a round, of 28 bits each.
+#[derive(Clone, Copy)]
+struct KeyHalves {
+    c: u32,
+    d: u32,
+    ghost small: { (c < 2 ^ 28) × (d < 2 ^ 28) },
+}
+
+impl KeyHalves {
+    // C0 and D0. In the transpose of a key row 1 is the first bits of its bytes, last byte first: C0 is the first 28 bits, D0 the rows
+    // 7, 6, 5 and the second half of row 4.
+    fn of_key(key: [u8; 8]) -> KeyHalves
+        ensures { keys_from shifts (bits 28 result.c) (bits 28 result.d) ≡ KS (to_bits key) }
+    {
+        let x = transpose(u64::from_le_bytes(key));
+        KeyHalves {
+            c: (x / 0x10_0000_0000) as u32,
+            d: ((x / 0x100 % 0x100) * 0x10_0000
+                + ((x / 0x1_0000 % 0x100) * 0x1000
+                    + ((x / 0x100_0000 % 0x100) * 0x10 + x / 0x1_0000_0000 % 0x10))) as u32,
+        }
+    }
+
+    // The halves of round i + 1 from those of round i: one place in rounds 1, 2, 9 and 16, else two. Each number of places has an arm of its own: with
+    // a variable one a fold is a tenth slower.
+    fn shifted(self, i: usize) -> KeyHalves
+        requires { i < 16 }
+        ensures c { bits 28 result.c ≡ left_shift (get_or shifts i 0) (bits 28 self.c) }
+        ensures d { bits 28 result.d ≡ left_shift (get_or shifts i 0) (bits 28 self.d) }
+    {
+        match i {
+            0 | 1 | 8 | 15 => self.turned(1),
+            _ => self.turned(2),
+        }
+    }
+
+    // The halves of round i from those of round i + 1.
+    fn shifted_back(self, i: usize) -> KeyHalves
+        requires { i < 16 }
+        ensures c { bits 28 result.c ≡ left_shift (28 - get_or shifts i 0) (bits 28 self.c) }
+        ensures d { bits 28 result.d ≡ left_shift (28 - get_or shifts i 0) (bits 28 self.d) }
+    {
+        match i {
+            0 | 1 | 8 | 15 => self.turned(27),
+            _ => self.turned(26),
+        }
+    }
+
+    fn turned(self, n: u32) -> KeyHalves
+        requires { n < 28 }
+        ensures c { bits 28 result.c ≡ left_shift n (bits 28 self.c) }
+        ensures d { bits 28 result.d ≡ left_shift n (bits 28 self.d) }
+    {
+        KeyHalves {
+            c: turned(self.c, n),
+            d: turned(self.d, n),
+        }
+    }
+
+    // The round key that PC-2 takes from C and D.
+    fn round_key(self) -> u64
+        ensures { key_bits result ≡ select PC2 (bits 28 self.c ++ bits 28 self.d) }
+    {
+        let x = half_key(0, self.c);
+        let y = half_key(4, self.d);
+        joined(
+            x % 0x1_0000 * 0x1_0000 + y % 0x1_0000,
+            x / 0x1_0000 * 0x1_0000 + y / 0x1_0000,
+        )
+    }
+}
+
+// c turned left by n of its 28 places.
+fn turned(c: u32, n: u32) -> u32
     requires c_bound { c < 2 ^ 28 }
-    requires i_bound { i < 16 }
-    ensures result_value { bits 28 result ≡ left_shift (get_or shifts i 0) (bits 28 c) }
+    requires n_bound { n < 28 }
+    ensures result_value { bits 28 result ≡ left_shift n (bits 28 c) }
     ensures upper_bound { result < 2 ^ 28 }
 {
-    match i {
-        0 | 1 | 8 | 15 => c % 0x800_0000 * 2 + c / 0x800_0000,
-        _ => c % 0x400_0000 * 4 + c / 0x400_0000,
-    }
-}
-
-// C or D of round i, from that of round i + 1.
-fn shifted_back(c: u32, i: usize) -> u32
-    requires c_bound { c < 2 ^ 28 }
-    requires i_bound { i < 16 }
-    ensures result_value { bits 28 result ≡ left_shift (28 - get_or shifts i 0) (bits 28 c) }
-    ensures upper_bound { result < 2 ^ 28 }
-{
-    match i {
-        0 | 1 | 8 | 15 => c % 2 * 0x800_0000 + c / 2,
-        _ => c % 4 * 0x400_0000 + c / 4,
-    }
-}
-
-// The round key that PC-2 takes from C and D.
-fn round_key(pc2: &[u32], c: u32, d: u32) -> u64
-    requires { Pc2Table pc2.now }
-    ensures { key_bits result ≡ select PC2 (bits 28 c ++ bits 28 d) }
-{
-    let x = half_key(pc2, 0, c);
-    let y = half_key(pc2, 4, d);
-    joined(
-        x % 0x1_0000 * 0x1_0000 + y % 0x1_0000,
-        x / 0x1_0000 * 0x1_0000 + y / 0x1_0000,
-    )
+    (c << n) % 0x1000_0000 | c >> (28 - n)
 }
 
 // The groups of a round key that come from c, which is the sevens m, m + 1, m + 2, m + 3 of C and D.
-fn half_key(pc2: &[u32], m: usize, c: u32) -> u32
-    requires pc2_table { Pc2Table pc2.now }
-    requires m_bound { m < 5 }
+fn half_key(m: usize, c: u32) -> u32
+    requires { m < 5 }
     ensures { bits 32 result ≡ pc2_bits m (c / 2 ^ 21) ⊞ (pc2_bits (m + 1) (c / 2 ^ 14) ⊞ (pc2_bits (m + 2) (c / 2 ^ 7) ⊞ pc2_bits (m + 3) c)) }
 {
-    let p = pick7(pc2, m, c / 0x20_0000);
-    let q = pick7(pc2, m + 1, c / 0x4000);
-    let r = pick7(pc2, m + 2, c / 0x80);
-    let s = pick7(pc2, m + 3, c);
+    let p = pick7(m, c / 0x20_0000);
+    let q = pick7(m + 1, c / 0x4000);
+    let r = pick7(m + 2, c / 0x80);
+    let s = pick7(m + 3, c);
     p ^ (q ^ (r ^ s))
 }
 
 // The entry of PC2_ENTRIES for the m-th seven bits, which are the low ones of x.
-fn pick7(pc2: &[u32], m: usize, x: u32) -> u32
-    requires pc2_table { Pc2Table pc2.now }
-    requires m_bound { m < 8 }
+fn pick7(m: usize, x: u32) -> u32
+    requires { m < 8 }
     ensures { bits 32 result ≡ pc2_bits m x }
 {
-    pc2[m * 128 + (x % 128) as usize]
+    PC2_ENTRIES[m * 128 + (x % 128) as usize]
 }
 
 // ---- words
@@ -321,42 +354,6 @@ fn delta_swap(x: u64, m: u64, s: u64) -> u64
     x ^ t ^ (t << s)
 }
 
-// The bytes of b, the last one highest.
-fn load(b: [u8; 8]) -> u64
-    ensures { bits 64 result ≡ to_bits (reverse b) }
-{
-    wide(b[7]) * 0x100_0000_0000_0000
-        + (wide(b[6]) * 0x1_0000_0000_0000
-            + (wide(b[5]) * 0x100_0000_0000
-                + (wide(b[4]) * 0x1_0000_0000
-                    + (wide(b[3]) * 0x100_0000
-                        + (wide(b[2]) * 0x1_0000 + (wide(b[1]) * 0x100 + wide(b[0])))))))
-}
-
-// The bytes of x, the highest one last.
-fn store(x: u64) -> [u8; 8]
-    ensures { result ≡ reverse (to_bytes 8 (bits 64 x)) }
-{
-    [
-        (x % 0x100) as u8,
-        (x / 0x100 % 0x100) as u8,
-        (x / 0x1_0000 % 0x100) as u8,
-        (x / 0x100_0000 % 0x100) as u8,
-        (x / 0x1_0000_0000 % 0x100) as u8,
-        (x / 0x100_0000_0000 % 0x100) as u8,
-        (x / 0x1_0000_0000_0000 % 0x100) as u8,
-        (x / 0x100_0000_0000_0000) as u8,
-    ]
-}
-
-// ---- parts of words, and turns of 32 bits
-
-fn wide(x: u8) -> u64
-    ensures { (result ≡ x) × (result < 256) }
-{
-    x as u64
-}
-
 fn low(x: u64) -> u32
     ensures { result ≡ x % 2 ^ 32 }
 {
@@ -372,44 +369,13 @@ fn high(x: u64) -> u32
 fn joined(x: u32, y: u32) -> u64
     ensures { result ≡ x * 2 ^ 32 + y }
 {
-    (x as u64) * 0x1_0000_0000 + (y as u64)
-}
-
-fn turn_left_1(x: u32) -> u32
-    ensures { bits 32 result ≡ left_shift 1 (bits 32 x) }
-{
-    x % 0x8000_0000 * 2 + x / 0x8000_0000
-}
-
-fn turn_right_1(x: u32) -> u32
-    ensures { bits 32 result ≡ left_shift 31 (bits 32 x) }
-{
-    x % 2 * 0x8000_0000 + x / 2
-}
-
-fn turn_right_4(x: u32) -> u32
-    ensures { bits 32 result ≡ left_shift 28 (bits 32 x) }
-{
-    x % 16 * 0x1000_0000 + x / 16
+    u64::from(x) * 0x1_0000_0000 + u64::from(y)
 }
 
 // ---- tables
 
-// The tables, for the outermost function of an operation to lend.
-pub(crate) fn sp_table() -> [u32; 512]
-    ensures { SpTable result }
-{
-    SP
-}
-
-pub(crate) fn pc2_table() -> [u32; 1024]
-    ensures { Pc2Table result }
-{
-    PC2_ENTRIES
-}
-
 // S and P together, turned left by one: 64 entries for each of S1 to S8.
-const SP: [u32; 512] = [
+static SP: [u32; 512] = [
     0x1010400, 0x0, 0x10000, 0x1010404, 0x1010004, 0x10404, 0x4, 0x10000, 0x400, 0x1010400,
     0x1010404, 0x400, 0x1000404, 0x1010004, 0x1000000, 0x4, 0x404, 0x1000400, 0x1000400, 0x10400,
     0x10400, 0x1010000, 0x1010000, 0x1000404, 0x10004, 0x1000004, 0x1000004, 0x10004, 0x0, 0x404,
@@ -467,7 +433,7 @@ const SP: [u32; 512] = [
 ];
 
 // PC-2 of seven bits at a time: 128 entries for each seven bits of C and D.
-const PC2_ENTRIES: [u32; 1024] = [
+static PC2_ENTRIES: [u32; 1024] = [
     0x0, 0x100000, 0x4000000, 0x4100000, 0x100, 0x100100, 0x4000100, 0x4100100, 0x4, 0x100004,
     0x4000004, 0x4100004, 0x104, 0x100104, 0x4000104, 0x4100104, 0x20000000, 0x20100000,
     0x24000000, 0x24100000, 0x20000100, 0x20100100, 0x24000100, 0x24100100, 0x20000004, 0x20100004,

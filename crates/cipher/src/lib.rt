@@ -11,8 +11,8 @@ mod fold;
 mod ofb;
 
 pub use aes::{decrypt_aes128_block, encrypt_aes128_block};
-pub use bytes::{copy, ct_eq, fill, xor_blocks, xor_blocks16};
-pub use cbc::{decrypt_des_cbc_zero_iv, encrypt_des_cbc_zero_iv};
+pub use bytes::{copy, ct_eq, fill, xor_blocks};
+pub use cbc::{PartialBlock, decrypt_des_cbc_zero_iv, encrypt_des_cbc_zero_iv};
 pub use cmac::{aes128_cmac, aes128_cmac_after_block};
 pub use des::{decrypt_3des_block, decrypt_des_block, encrypt_3des_block, encrypt_des_block};
 pub use fold::{decrypt_des_under_each, encrypt_aes128_under_each, encrypt_des_under_each};

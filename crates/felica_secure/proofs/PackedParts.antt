@@ -3,10 +3,12 @@ use mathlib.Core.Path.{◌≡◌, ◌∙◌}
 use mathlib.Core.List.{List}
 use Prim.Native.Nat.{ℕ, ◌<◌}
 use native.Mathlib.Omega.{arith}
-use Rattle.answer.specs.Outcome.{Answer, answer_number, answer_length, answer_transaction, Outcome, Meets}
+use Rattle.std.specs.Prelude.{Result}
+use Rattle.answer.specs.Outcome.{Outcome, Meets, Answer, answer_number, answer_length, answer_transaction}
+use Rattle.answer.specs.declared.refusal.Refusal.{Refusal}
 use Rattle.frame.specs.Forecast.{forecasting}
 use Rattle.felica_secure.specs.Packed.{packed, packed_number, packed_mark, packed_length, packed_transaction, Returns, ReturnsDerived}
-use Rattle.session.specs.Derivation.{Derived, Derives}
+use Rattle.session.specs.Derivation.{Derived, Derives, derived_number, derived_node, derived_scheme, derived_length}
 use Rattle.session.specs.declared.keys.DerivedAuthKeys.{DerivedAuthKeys}
 
 -- the parts of a packed answer are what was packed
@@ -37,5 +39,5 @@ pub forecast_packed : (scheme n : ℕ) (a : Answer) (r : ℕ) → (answer_number
 forecast_packed scheme n a r f e = e ∙ rw (f.0, f.1, f.2)
 
 -- a derivation's answer, packed
-pub derives_returns : (d : Derived) (a : DerivedAuthKeys) (r : ℕ) (before after : List ℕ) → Derives d a before after → r ≡ packed a.answer.number a.scheme a.answer.length a.node → ReturnsDerived d r before after
+pub derives_returns : (d : Derived) (a : Result DerivedAuthKeys Refusal) (r : ℕ) (before after : List ℕ) → Derives d a before after → r ≡ packed (derived_number a) (derived_scheme a) (derived_length a) (derived_node a) → ReturnsDerived d r before after
 derives_returns d a r before after m e = record { answer = e ∙ rw (m.number, m.scheme, m.length_is, m.node); output = m.output }

@@ -17,11 +17,8 @@ pub extern "C" fn felica_derive_auth_keys(
 ) -> u64
     ensures { ReturnsDerived (derivation mark keys.now areas.now services.now individual.now (length out.old)) result out.old out.new }
 {
-    let derived = session::derive_auth_keys(mark, keys, areas, services, individual, out);
-    pack::pack_all(
-        derived.answer.number,
-        derived.scheme,
-        derived.answer.length,
-        derived.node,
-    )
+    match session::derive_auth_keys(mark, keys, areas, services, individual, out) {
+        Ok(derived) => pack::pack_all(0, derived.scheme.mark(), derived.length, 0),
+        Err(refusal) => pack::pack_all(refusal.number(), 0, 0, refusal.node()),
+    }
 }

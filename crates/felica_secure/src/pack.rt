@@ -9,9 +9,10 @@ use answer::Answer;
 pub(crate) fn pack_all(number: u8, scheme: u8, length: u16, value: u16) -> u64
     ensures { result ≡ packed number scheme length value }
 {
-    let [low, high] = length.to_le_bytes();
-    let [value_low, value_high] = value.to_le_bytes();
-    u64::from_le_bytes([number, scheme, low, high, value_low, value_high, 0, 0])
+    u64::from(number)
+        + u64::from(scheme) * 0x100
+        + u64::from(length) * 0x1_0000
+        + u64::from(value) * 0x1_0000_0000
 }
 
 // An answer as C gets it.

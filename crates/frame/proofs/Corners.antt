@@ -6,7 +6,7 @@ use native.Mathlib.Omega.{arith}
 use borrow.Author.Tests.{eq-eqb, lt-ltb}
 use lib.Dec.{lit<}
 use lib.ListN.{length, replicate}
-use Rattle.cipher.proofs.Folds.{under_start, under_done}
+use Rattle.cipher.proofs.Folds.{under_none}
 use Rattle.frame.specs.AesFrame.{aes_iv}
 use Rattle.frame.specs.DesFrame.{mac_start, des_mac, des_size, seal_rows, des_sealing}
 use Rattle.answer.specs.Number.{number_bytes}
@@ -39,7 +39,7 @@ pad_8 l e = padded l 8 e ∙ append-nil l
 
 pub mac_empty : des_mac 0x13 [] ≡ 0x0A ∷ 0x13 ∷ 0x00 ∷ 0x00 ∷ 0x00 ∷ 0x00 ∷ 0x00 ∷ 0x00 ∷ []
 unfolding des_mac mac_start
-mac_empty = let start : List ℕ = 0x0A ∷ 0x13 ∷ replicate 6 0x00 in sym (under_done _ 8 (under_start _ 8 [] start) (lit< tt))
+mac_empty = under_none _ 8 (0x0A ∷ 0x13 ∷ replicate 6 0x00) (lit< tt)
 
 pub iv_43 : aes_iv 0 0x43 (number_bytes 1) (0x11 ∷ 0x12 ∷ 0x13 ∷ 0x14 ∷ 0x15 ∷ 0x16 ∷ []) (0x21 ∷ 0x22 ∷ 0x23 ∷ 0x24 ∷ [])
     ≡ 0x01 ∷ 0x0C ∷ 0x43 ∷ 0x01 ∷ 0x00 ∷ 0x11 ∷ 0x12 ∷ 0x13 ∷ 0x14 ∷ 0x15 ∷ 0x16 ∷ 0x22 ∷ 0x23 ∷ 0x24 ∷ 0x00 ∷ 0x00 ∷ []

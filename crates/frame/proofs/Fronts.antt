@@ -1,12 +1,20 @@
 -- The front of an output, lent to a call that works on whole blocks of w bytes. Assumes nothing.
 use mathlib.Core.Path.{◌≡◌, refl, sym, ap, ◌∙◌}
+use mathlib.Core.Bool.{Bool, true}
 use mathlib.Core.List.{List, ◌++◌}
 use Prim.Native.Nat.{ℕ, ◌%◌, ◌≤◌}
 use lib.ListN.{length, take, drop}
-use Rattle.cipher.specs.Sp80038a.{on_whole}
+use lib.Seq.{length-take-le}
+use Rattle.cipher.specs.Sp80038a.{whole, on_whole}
 use Rattle.cipher.proofs.Modes.{on_whole_lem}
 use Rattle.answer.specs.Outcome.{over}
 use Rattle.answer.proofs.Outputs.{front, replaced, copied_over}
+
+-- such a call accepts a front of n bytes, where n is whole
+pub accepts_front : (w n : ℕ) (s : List ℕ) (ok : Bool) → ok ≡ whole w (take n s) → n ≤ length s → n % w ≡ 0 → ok ≡ true
+accepts_front w n s ok e h z =
+    let k : length (take n s) % w ≡ 0 = rw (length-take-le n s h) z in
+    e ∙ sym (on_whole_lem w (λ l. l) (take n s) k).0
 
 module _ (w : ℕ) (f : List ℕ → List ℕ) where
   -- b was written over o, and f done to it in place

@@ -33,7 +33,7 @@ fn decrypt_over(key: [u8; 8], data: &[u8], work: &mut [u8])
 {
     let n = data.len();
     cipher::copy(data, work);
-    cipher::decrypt_des_cbc_zero_iv(&mut work[..n], key);
+    cipher::decrypt_des_cbc_zero_iv(&mut work[..n], key).unwrap();
 }
 
 // Opens the plain text of an Authentication 2 response: all but the MAC goes out.
@@ -296,7 +296,7 @@ fn seal_front(code: u8, key: [u8; 8], out: &mut [u8], len: usize) -> usize
     let mac = calculate_command_mac_des(code, &out[..end]);
     let sealed = end + 8;
     out[end..sealed].copy_from_slice(&mac);
-    cipher::encrypt_des_cbc_zero_iv(&mut out[..sealed], key);
+    cipher::encrypt_des_cbc_zero_iv(&mut out[..sealed], key).unwrap();
     sealed
 }
 

@@ -17,7 +17,7 @@ fn package_mac(key: [u8; 8], plain: &[u8], out: &mut [u8]) -> [u8; 8]
 {
     let n = plain.len();
     cipher::copy(plain, out);
-    cipher::encrypt_des_cbc_zero_iv(&mut out[..n], cipher::xor_blocks(key, [255u8; 8]));
+    cipher::encrypt_des_cbc_zero_iv(&mut out[..n], cipher::xor_blocks(key, [255u8; 8])).unwrap();
     answer::fit(&out[n - 8..n])
 }
 
@@ -33,7 +33,7 @@ fn write_package(key: [u8; 8], plain: &[u8], out: &mut [u8]) -> usize
     let mac = package_mac(key, plain, out);
     cipher::copy(plain, out);
     out[n..size].copy_from_slice(&mac);
-    cipher::encrypt_des_cbc_zero_iv(&mut out[..size], key);
+    cipher::encrypt_des_cbc_zero_iv(&mut out[..size], key).unwrap();
     size
 }
 

@@ -1,130 +1,84 @@
 // One line of a data file: a case, read and put to its operation.
-use crate::call::{Given, Kind};
-use crate::{call, field};
-use textfile::Verdict;
+use crate::{challenge, derive, sealed, steps};
+use std::alloc::Global;
+use textfile::{FieldError, Fields, Verdict};
 
-pub(crate) fn run(kind: Kind, line: &[u8]) -> Verdict {
-    if line.len() == 0 {
-        return Verdict::Malformed;
-    }
-    if line[0] == b'#' {
-        return Verdict::Comment;
-    }
-    if !is_named(kind, textfile::field(line, 0)) {
-        return Verdict::Malformed;
-    }
-    let at = answer_places(kind);
-    if !is_whole(line, at[0]) {
-        return Verdict::Malformed;
-    }
-    if !has_fields(kind, line) {
-        return Verdict::Malformed;
-    }
-    put(kind, line, at)
+// What a case asks for.
+#[derive(Clone, Copy)]
+pub(crate) enum Kind {
+    Seal,
+    Frame,
+    Open,
+    Auth2Seal,
+    Auth2OpenDes,
+    Auth2OpenAes,
+    Package,
+    Derive,
+    KeyFree,
+    Make,
+    Read,
+    Check,
+    SessionKeys,
+    Step,
+    Index,
+    Apply,
 }
 
-// Whether a line's first word names the operation.
-fn is_named(kind: Kind, word: &[u8]) -> bool {
+impl Kind {
+    // The operation's name, and how many fields a case has with it.
+    fn form(self) -> (&'static str, usize) {
+        match self {
+            Kind::Seal => ("seal", 9),
+            Kind::Frame => ("frame", 9),
+            Kind::Open => ("open", 9),
+            Kind::Auth2Seal => ("auth2seal", 5),
+            Kind::Auth2OpenDes => ("auth2open_des", 5),
+            Kind::Auth2OpenAes => ("auth2open_aes", 7),
+            Kind::Package => ("package", 5),
+            Kind::Derive => ("derive", 10),
+            Kind::KeyFree => ("keyfree", 3),
+            Kind::Make => ("make", 9),
+            Kind::Read => ("read", 9),
+            Kind::Check => ("check", 9),
+            Kind::SessionKeys => ("session_keys", 6),
+            Kind::Step => ("step", 4),
+            Kind::Index => ("index", 5),
+            Kind::Apply => ("apply", 9),
+        }
+    }
+}
+
+pub(crate) fn run(alloc: Global, kind: Kind, line: &str) -> Result<Verdict, FieldError> {
+    match line.strip_suffix(" departs") {
+        Some(case) if agrees(alloc, kind, case)? => Ok(Verdict::Departs),
+        Some(_) => Ok(Verdict::Differs),
+        None => Ok(Verdict::from(agrees(alloc, kind, line)?)),
+    }
+}
+
+// Whether all calls of a case agree.
+fn agrees(alloc: Global, kind: Kind, case: &str) -> Result<bool, FieldError> {
+    let fields = Fields::new(alloc, case)?;
+    let (name, count) = kind.form();
+    if fields.get(0)? != name || fields.texts.len() != count {
+        return Err(FieldError::Malformed);
+    }
     match kind {
-        Kind::Seal | Kind::SealAlone => textfile::same(word, b"seal"),
-        Kind::Frame | Kind::FrameAlone => textfile::same(word, b"frame"),
-        Kind::Open | Kind::OpenAlone => textfile::same(word, b"open"),
-        Kind::Auth2Seal => textfile::same(word, b"auth2seal"),
-        Kind::Auth2OpenDes => textfile::same(word, b"auth2open_des"),
-        Kind::Auth2OpenAes => textfile::same(word, b"auth2open_aes"),
-        Kind::Package => textfile::same(word, b"package"),
-        Kind::Derive => textfile::same(word, b"derive"),
-        Kind::KeyFree => textfile::same(word, b"keyfree"),
-        Kind::Make => textfile::same(word, b"make"),
-        Kind::Read => textfile::same(word, b"read"),
-        Kind::Check => textfile::same(word, b"check"),
-        Kind::SessionKeys => textfile::same(word, b"session_keys"),
-        Kind::Step => textfile::same(word, b"step"),
-        Kind::Index => textfile::same(word, b"index"),
-        Kind::Apply => textfile::same(word, b"apply"),
-    }
-}
-
-// Whether the fields after the name, inputs and answer, are of their sorts.
-fn has_fields(kind: Kind, line: &[u8]) -> bool {
-    match kind {
-        Kind::Seal | Kind::SealAlone => field::are(line, b"bbnhhdbd"),
-        Kind::Frame | Kind::FrameAlone => field::are(line, b"bbnhhdbd"),
-        Kind::Open | Kind::OpenAlone => field::are(line, b"bbhhdbnd"),
-        Kind::Auth2OpenAes => field::are(line, b"hhdbnd"),
-        Kind::Auth2Seal | Kind::Auth2OpenDes | Kind::Package => field::are(line, b"hdbd"),
-        Kind::Derive => field::are(line, b"bdddhbnbd"),
-        Kind::KeyFree => field::are(line, b"nn"),
-        Kind::Make | Kind::Read => field::are(line, b"wbhhhhbd"),
-        Kind::Check => field::are(line, b"wbhhhhhb"),
-        Kind::SessionKeys => field::are(line, b"hhhbd"),
-        Kind::Step => field::are(line, b"nbn"),
-        Kind::Index => field::are(line, b"dnbn"),
-        Kind::Apply => field::are(line, b"nhhbdbnd"),
-    }
-}
-
-// The last field of a line, and which fields are the answer's number, its value, its scheme and its bytes. What
-// the kind does not have is 0.
-fn answer_places(kind: Kind) -> [usize; 5] {
-    match kind {
-        Kind::Seal | Kind::SealAlone | Kind::Frame | Kind::FrameAlone => [8, 7, 0, 0, 8],
-        Kind::Open | Kind::OpenAlone | Kind::Apply => [8, 6, 7, 0, 8],
-        Kind::Auth2OpenAes => [6, 4, 5, 0, 6],
-        Kind::Auth2Seal | Kind::Auth2OpenDes | Kind::Package => [4, 3, 0, 0, 4],
-        Kind::Derive => [9, 6, 7, 8, 9],
-        Kind::KeyFree => [2, 0, 2, 0, 0],
-        Kind::Make | Kind::Read => [8, 7, 0, 0, 8],
-        Kind::Check => [8, 8, 0, 0, 0],
-        Kind::SessionKeys => [5, 4, 0, 0, 5],
-        Kind::Step => [3, 2, 3, 0, 0],
-        Kind::Index => [4, 3, 4, 0, 0],
-    }
-}
-
-// Whether a line ends in field `last`, or in the word 'departs' after it, which says that the stored
-// answer is not the original's.
-fn is_whole(line: &[u8], last: usize) -> bool {
-    let n = textfile::blanks(line);
-    if n == last {
-        return true;
-    }
-    if n == 0 {
-        return false;
-    }
-    if n - 1 != last {
-        return false;
-    }
-    textfile::same(textfile::field(line, n), b"departs")
-}
-
-fn put(kind: Kind, line: &[u8], at: [usize; 5]) -> Verdict {
-    let mut bytes = [0u8; 4608];
-    let n = field::bytes(line, at[4], &mut bytes);
-    let wanted = wanted(line, at, n);
-    if !call::is_answer(wanted) {
-        return Verdict::Malformed;
-    }
-    let agrees = call::agrees(kind, line, wanted, &bytes[0..n]);
-    judged(agrees, textfile::blanks(line) > at[0])
-}
-
-fn wanted(line: &[u8], at: [usize; 5], length: usize) -> Given {
-    Given {
-        number: field::byte(line, at[1]),
-        length: field::narrow(length),
-        scheme: field::byte(line, at[3]),
-        value: field::short(line, at[2]),
-    }
-}
-
-fn judged(agrees: bool, departs: bool) -> Verdict {
-    if !agrees {
-        return Verdict::Differs;
-    }
-    if departs {
-        Verdict::Departs
-    } else {
-        Verdict::Agrees
+        Kind::Seal => sealed::seal(&fields),
+        Kind::Frame => sealed::frame(&fields),
+        Kind::Open => sealed::open(&fields),
+        Kind::Auth2Seal => sealed::auth2_seal(&fields),
+        Kind::Auth2OpenDes => sealed::auth2_open_des(&fields),
+        Kind::Auth2OpenAes => sealed::auth2_open_aes(&fields),
+        Kind::Package => sealed::package(&fields),
+        Kind::Derive => derive::keys(&fields),
+        Kind::KeyFree => derive::key_free(&fields),
+        Kind::Make => challenge::make(&fields),
+        Kind::Read => challenge::read(&fields),
+        Kind::Check => challenge::check(&fields),
+        Kind::SessionKeys => challenge::session_keys(&fields),
+        Kind::Step => steps::step(&fields),
+        Kind::Index => steps::index(&fields),
+        Kind::Apply => steps::apply(&fields),
     }
 }

@@ -1,36 +1,33 @@
-// Key derivation and service codes: a line's inputs, and the call.
-use crate::call::Given;
-use crate::{call, field};
+// Key derivation and service codes: a case's inputs, and the call.
+use crate::call::{Given, Wanted};
+use textfile::{FieldError, Fields};
 
-pub(crate) fn keys(line: &[u8], out: &mut [u8]) -> Given {
-    let mut keys = [0u8; 4608];
-    let k = field::bytes(line, 2, &mut keys);
-    let mut areas = [0u8; 4608];
-    let a = field::bytes(line, 3, &mut areas);
-    let mut services = [0u8; 4608];
-    let s = field::bytes(line, 4, &mut services);
-    let mut individual = [0u8; 64];
-    let i = field::bytes(line, 5, &mut individual);
-    let mark = field::byte(line, 1);
-    let derived = session::derive_auth_keys(
-        mark,
-        &keys[0..k],
-        &areas[0..a],
-        &services[0..s],
-        &individual[0..i],
-        out,
-    );
-    Given {
-        number: derived.answer.number,
-        length: derived.answer.length,
-        scheme: derived.scheme,
-        value: derived.node,
-    }
+pub(crate) fn keys(fields: &Fields) -> Result<bool, FieldError> {
+    let mark = fields.number(1)?;
+    let keys = fields.bytes(2)?;
+    let areas = fields.bytes(3)?;
+    let services = fields.bytes(4)?;
+    let individual = fields.bytes(5)?;
+    let bytes = fields.bytes(9)?;
+    let wanted = Wanted::new(
+        fields.number(6)?,
+        fields.number(7)?,
+        fields.number(8)?,
+        &bytes,
+    )?;
+    Ok(wanted.is_given(|out| {
+        let derived = session::derive_auth_keys(mark, &keys, &areas, &services, &individual, out);
+        Given {
+            number: derived.answer.number,
+            length: derived.answer.length,
+            scheme: derived.scheme,
+            value: derived.node,
+        }
+    }))
 }
 
-pub(crate) fn key_free(line: &[u8]) -> Given {
-    if session::is_key_free_service(field::short(line, 1)) {
-        return call::said(0, 1);
-    }
-    call::said(0, 0)
+pub(crate) fn key_free(fields: &Fields) -> Result<bool, FieldError> {
+    let service = fields.number(1)?;
+    let wanted = Wanted::new(0, fields.number(2)?, 0, &[])?;
+    Ok(wanted.is_given(|_| Given::said(0, u16::from(session::is_key_free_service(service)))))
 }

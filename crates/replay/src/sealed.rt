@@ -1,148 +1,133 @@
-// The operations of `frame`: a line's inputs, and the call.
-use crate::call::Kind;
-use crate::field;
-use answer::Answer;
+// The operations of `frame`: a case's inputs, and the calls.
+use crate::call::{Given, Wanted};
+use textfile::{FieldError, Fields};
 
-// The numbers among the inputs.
-#[derive(Clone, Copy)]
-struct Asked {
-    scheme: u8,
-    code: u8,
-    number: u16,
+// A sealed command, its size as it was foretold, and the command sealed by the scheme's own operation.
+pub(crate) fn seal(fields: &Fields) -> Result<bool, FieldError> {
+    let scheme = fields.number(1)?;
+    let code = fields.number(2)?;
+    let number = fields.number(3)?;
+    let id = fields.bytes(4)?;
+    let credentials = fields.bytes(5)?;
+    let payload = fields.bytes(6)?;
+    let bytes = fields.bytes(8)?;
+    let wanted = Wanted::new(fields.number(7)?, 0, 0, &bytes)?;
+    let forecast = Given::from(frame::forecast(scheme, payload.len()));
+    let both = wanted.is_given(|out| {
+        Given::from(frame::encrypt_command(scheme, code, number, &id, &credentials, &payload, out))
+    });
+    let own = wanted.is_given(|out| {
+        Given::from(if scheme == 1 {
+            frame::encrypt_secure_request_des(code, number, &id, &credentials, &payload, out)
+        } else {
+            frame::encrypt_secure_request_v2_aes128(code, number, &id, &credentials, &payload, out)
+        })
+    });
+    Ok(both && forecast == wanted.answer && own)
 }
 
-// Which field of a line each input is: scheme, code, number, ID, credentials (or key), data (or payload, or
-// plain). An input that the kind does not have is 0.
-const SEALED: [usize; 6] = [1, 2, 3, 4, 5, 6];
-
-const OPENED: [usize; 6] = [1, 2, 0, 3, 4, 5];
-
-const AUTH2_AES: [usize; 6] = [0, 0, 0, 1, 2, 3];
-
-const KEYED: [usize; 6] = [0, 0, 0, 0, 1, 2];
-
-fn places(kind: Kind) -> [usize; 6] {
-    match kind {
-        Kind::Seal | Kind::SealAlone | Kind::Frame | Kind::FrameAlone => SEALED,
-        Kind::Open | Kind::OpenAlone => OPENED,
-        Kind::Auth2OpenAes => AUTH2_AES,
-        _ => KEYED,
-    }
-}
-
-pub(crate) fn call(kind: Kind, line: &[u8], out: &mut [u8]) -> Answer {
-    let at = places(kind);
-    let mut id = [0u8; 64];
-    let i = field::bytes(line, at[3], &mut id);
-    let mut credentials = [0u8; 64];
-    let c = field::bytes(line, at[4], &mut credentials);
-    let mut data = [0u8; 4608];
-    let d = field::bytes(line, at[5], &mut data);
-    let asked = Asked {
-        scheme: field::byte(line, at[0]),
-        code: field::byte(line, at[1]),
-        number: field::short(line, at[2]),
-    };
-    put(kind, asked, &id[0..i], &credentials[0..c], &data[0..d], out)
-}
-
-// The size of a sealed command, as it is foretold.
-pub(crate) fn forecast(line: &[u8]) -> Answer {
-    let mut payload = [0u8; 4608];
-    let n = field::bytes(line, SEALED[5], &mut payload);
-    frame::forecast(field::byte(line, SEALED[0]), n)
-}
-
-fn put(
-    kind: Kind,
-    asked: Asked,
-    id: &[u8],
-    credentials: &[u8],
-    data: &[u8],
-    out: &mut [u8],
-) -> Answer {
-    match kind {
-        Kind::Seal => seal(asked, id, credentials, data, out),
-        Kind::SealAlone => seal_alone(asked, id, credentials, data, out),
-        Kind::Frame => respond(asked, id, credentials, data, out),
-        Kind::FrameAlone => respond_alone(asked, id, credentials, data, out),
-        Kind::Open => frame::decrypt_response(asked.scheme, asked.code, id, credentials, data, out),
-        Kind::OpenAlone => open_alone(asked, id, credentials, data, out),
-        Kind::Auth2Seal => frame::encrypt_authentication2_payload(credentials, data, out),
-        Kind::Auth2OpenDes => frame::decrypt_authentication2_payload(credentials, data, out),
-        Kind::Auth2OpenAes => {
-            frame::decrypt_authentication2_payload_v2_aes128(id, credentials, data, out)
-        }
-        _ => frame::generate_registration_package_des(credentials, data, out),
-    }
-}
-
-fn seal(asked: Asked, id: &[u8], credentials: &[u8], payload: &[u8], out: &mut [u8]) -> Answer {
-    let scheme = asked.scheme;
-    frame::encrypt_command(
-        scheme,
-        asked.code,
-        asked.number,
-        id,
-        credentials,
-        payload,
-        out,
-    )
-}
-
-fn respond(asked: Asked, id: &[u8], credentials: &[u8], payload: &[u8], out: &mut [u8]) -> Answer {
-    frame::build_secure_response_frame(
-        asked.scheme,
-        asked.code,
-        asked.number,
-        id,
-        credentials,
-        payload,
-        out,
-    )
-}
-
-fn seal_alone(
-    asked: Asked,
-    id: &[u8],
-    credentials: &[u8],
-    payload: &[u8],
-    out: &mut [u8],
-) -> Answer {
-    if asked.scheme == 1 {
-        frame::encrypt_secure_request_des(asked.code, asked.number, id, credentials, payload, out)
-    } else {
-        frame::encrypt_secure_request_v2_aes128(
-            asked.code,
-            asked.number,
-            id,
-            credentials,
-            payload,
+// A response frame, and the one made by the scheme's own operation.
+pub(crate) fn frame(fields: &Fields) -> Result<bool, FieldError> {
+    let scheme = fields.number(1)?;
+    let code = fields.number(2)?;
+    let number = fields.number(3)?;
+    let id = fields.bytes(4)?;
+    let credentials = fields.bytes(5)?;
+    let payload = fields.bytes(6)?;
+    let bytes = fields.bytes(8)?;
+    let wanted = Wanted::new(fields.number(7)?, 0, 0, &bytes)?;
+    let both = wanted.is_given(|out| {
+        Given::from(frame::build_secure_response_frame(
+            scheme,
+            code,
+            number,
+            &id,
+            &credentials,
+            &payload,
             out,
-        )
-    }
+        ))
+    });
+    let own = wanted.is_given(|out| {
+        Given::from(if scheme == 1 {
+            frame::build_secure_response_frame_des(code, number, &id, &credentials, &payload, out)
+        } else {
+            frame::build_secure_response_frame_v2_aes128(
+                code,
+                number,
+                &id,
+                &credentials,
+                &payload,
+                out,
+            )
+        })
+    });
+    Ok(both && own)
 }
 
-fn respond_alone(
-    asked: Asked,
-    id: &[u8],
-    credentials: &[u8],
-    payload: &[u8],
-    out: &mut [u8],
-) -> Answer {
-    let code = asked.code;
-    let number = asked.number;
-    if asked.scheme == 1 {
-        frame::build_secure_response_frame_des(code, number, id, credentials, payload, out)
-    } else {
-        frame::build_secure_response_frame_v2_aes128(code, number, id, credentials, payload, out)
-    }
+// An opened response, and the one opened by the scheme's own operation.
+pub(crate) fn open(fields: &Fields) -> Result<bool, FieldError> {
+    let scheme = fields.number(1)?;
+    let code = fields.number(2)?;
+    let id = fields.bytes(3)?;
+    let credentials = fields.bytes(4)?;
+    let sealed = fields.bytes(5)?;
+    let bytes = fields.bytes(8)?;
+    let wanted = Wanted::new(fields.number(6)?, fields.number(7)?, 0, &bytes)?;
+    let both = wanted.is_given(|out| {
+        Given::from(frame::decrypt_response(scheme, code, &id, &credentials, &sealed, out))
+    });
+    let own = wanted.is_given(|out| {
+        Given::from(if scheme == 1 {
+            frame::decrypt_secure_response_des(code, &id, &credentials, &sealed, out)
+        } else {
+            frame::decrypt_secure_response_v2_aes128(code, &id, &credentials, &sealed, out)
+        })
+    });
+    Ok(both && own)
 }
 
-fn open_alone(asked: Asked, id: &[u8], credentials: &[u8], data: &[u8], out: &mut [u8]) -> Answer {
-    if asked.scheme == 1 {
-        frame::decrypt_secure_response_des(asked.code, id, credentials, data, out)
-    } else {
-        frame::decrypt_secure_response_v2_aes128(asked.code, id, credentials, data, out)
-    }
+pub(crate) fn auth2_seal(fields: &Fields) -> Result<bool, FieldError> {
+    let key = fields.bytes(1)?;
+    let payload = fields.bytes(2)?;
+    let bytes = fields.bytes(4)?;
+    let wanted = Wanted::new(fields.number(3)?, 0, 0, &bytes)?;
+    Ok(wanted.is_given(|out| Given::from(frame::encrypt_authentication2_payload(
+        &key, &payload, out,
+    ))))
+}
+
+pub(crate) fn auth2_open_des(fields: &Fields) -> Result<bool, FieldError> {
+    let key = fields.bytes(1)?;
+    let sealed = fields.bytes(2)?;
+    let bytes = fields.bytes(4)?;
+    let wanted = Wanted::new(fields.number(3)?, 0, 0, &bytes)?;
+    Ok(wanted.is_given(|out| Given::from(frame::decrypt_authentication2_payload(
+        &key, &sealed, out,
+    ))))
+}
+
+pub(crate) fn auth2_open_aes(fields: &Fields) -> Result<bool, FieldError> {
+    let id = fields.bytes(1)?;
+    let credentials = fields.bytes(2)?;
+    let sealed = fields.bytes(3)?;
+    let bytes = fields.bytes(6)?;
+    let wanted = Wanted::new(fields.number(4)?, fields.number(5)?, 0, &bytes)?;
+    Ok(wanted.is_given(|out| {
+        Given::from(frame::decrypt_authentication2_payload_v2_aes128(
+            &id,
+            &credentials,
+            &sealed,
+            out,
+        ))
+    }))
+}
+
+pub(crate) fn package(fields: &Fields) -> Result<bool, FieldError> {
+    let key = fields.bytes(1)?;
+    let plain = fields.bytes(2)?;
+    let bytes = fields.bytes(4)?;
+    let wanted = Wanted::new(fields.number(3)?, 0, 0, &bytes)?;
+    Ok(wanted.is_given(|out| Given::from(frame::generate_registration_package_des(
+        &key, &plain, out,
+    ))))
 }

@@ -17,9 +17,8 @@ use Rattle.answer.specs.Tests.{either}
 use Rattle.session.specs.Entries.{Entry, entries, nodes, has}
 use Rattle.session.specs.ServiceCode.{bearing}
 use Rattle.session.specs.Derivation.{key_length, Derived, turned_down, derived, by_rows, needing, key_of, keys_of, group_des, user_des, derived_des, chain_start, group_aes, individual_key, derived_aes, target, derived_by, chosen, derived_for, derive_rows, derived_before16, with_room, derivation}
-use Rattle.session.specs.inner.DerivationSteps.{missing}
-use Rattle.session.proofs.Gathering.{needing_missing, missing_first, missing_shape, keys_of_one, keys_long, keys_bytes}
-use Rattle.session.proofs.DerivationSteps.{guard_passed}
+use Rattle.session.proofs.Gathering.{missing, needing_missing, missing_first, missing_shape, keys_of_one, keys_long, keys_bytes}
+use Rattle.session.proofs.DerivationSteps.{own_fits}
 
 -- what an accepted derivation gives
 pub record Given (d : Derived) : Type 0 where
@@ -130,7 +129,7 @@ module _ (mark : ℕ) (keys areas services individual : List ℕ) (b : Bytes key
   unfolding derived_before16
   derived_gives =
       gives_rows (derive_rows mark keys areas services individual) _
-      (λ z. for_gives keys b (nodes areas) (nodes services) individual o (guard_passed mark keys areas services individual 0 (sym z) refl).individual_fits mark)
+      (λ z. for_gives keys b (nodes areas) (nodes services) individual o (own_fits mark keys areas services individual z) mark)
 
   -- room changes nothing of an accepted derivation
   room_accepted : (t : Bool) (d : Derived) → (choose t (turned_down 16 0) d).number ≡ 0 → choose t (turned_down 16 0) d ≡ d

@@ -2,326 +2,305 @@
 use mathlib.Core.Path.{◌≡◌, refl, sym, ap, ap₂, ◌∙◌}
 use mathlib.Core.Bool.{Bool, true, false}
 use mathlib.Core.List.{List, [], ◌∷◌, ◌++◌}
-use Prim.Native.Nat.{ℕ, ◌+◌, ◌-◌, ◌*◌, ◌/◌, ◌≤◌, ◌<◌}
+use Prim.Native.Nat.{ℕ, ◌*◌, ◌/◌, ◌%◌, ◌≤◌, ◌<◌}
 use native.Mathlib.Omega.{arith}
-use borrow.Author.Tests.{eq-eqb, ne_eqb, eqb-true, lt-ltb, le-ltb, ltb-false}
+use borrow.Author.Tests.{eq-eqb, ne_eqb, lt-ltb, le-ltb, ltb-false}
 use lib.Dec.{eqb, ltb}
-use lib.ListN.{length, take, drop, replicate, length-append}
-use lib.Seq.{take_at, drop_at, drop-drop, length-take-le}
+use lib.Seq.{length-take-le}
+use lib.ListN.{length, take, replicate}
 use Rattle.cipher.specs.Fips197.{aes_encrypt}
 use Rattle.cipher.specs.Fips46.{des_encrypt}
 use Rattle.cipher.specs.Fold.{under_each}
-use Rattle.cipher.proofs.ByteLists.{empty}
-use Rattle.cipher.proofs.Copies.{copied}
-use Rattle.answer.specs.Outcome.{first_of}
-use Rattle.answer.specs.Outcome.{Row, row, choose, over}
-use Rattle.answer.specs.Tests.{either, both}
-use Rattle.answer.proofs.Rows.{either_false, isnt_false, numbered, first_passes}
-use Rattle.frame.proofs.DesOpens.{rest_part}
-use Rattle.session.specs.Entries.{Entry, entries, nodes, has}
-use Rattle.session.specs.ServiceCode.{bearing}
-use Rattle.session.specs.Derivation.{des_rows, key_length, Derived, Derives, turned_down, derived, by_rows, needing, key_of, keys_of, group_des, user_des, derived_des, chain_start, group_aes, individual_key, derived_aes, target, derived_by, chosen, derived_for, lengths_wrong, derive_rows, derived_before16, with_room, derivation}
-use Rattle.session.specs.inner.DerivationSteps.{Refuses, Chooses, missing, Holds, chain_des, bearing_des}
-use Rattle.session.specs.declared.keys.Choice.{Choice}
+use Rattle.std.proofs.Common.{Option, Some, None, MatchOption, Result, Ok, Err, ◌≢◌}
+use Rattle.std.proofs.lemmas.Result.{err_from_is_err_and}
+use Rattle.std.specs.Result.{IsErrAnd}
+use Rattle.std.specs.Option.{IfSome, is_some}
+use Rattle.std.specs.Option.{ok_or, unwrap_or}
+use Rattle.answer.specs.Outcome.{Row, row, choose, first_of, over}
+use Rattle.answer.specs.Refusal.{refusal_number, refusal_node}
+use Rattle.answer.specs.Scheme.{mark_of}
+use Rattle.answer.specs.Tests.{isnt, either, both}
+use Rattle.answer.specs.declared.refusal.Refusal.{Refusal}
+use Rattle.answer.specs.declared.refusal.Refusal.TheVariants.{OutputTooSmall, BadMarkOrLength, NoNodes, KeyMissing}
+use Rattle.answer.specs.declared.scheme.Scheme.{Scheme}
+use Rattle.answer.specs.declared.scheme.Scheme.TheVariants.{Des, Aes128}
+use Rattle.answer.proofs.Rows.{refusal_some, either_false, isnt_false, numbered, first_passes}
+use Rattle.session.specs.Entries.{Entry, entries, nodes, has, unknown_algorithm, twice}
 use Rattle.session.specs.declared.keys.DerivedAuthKeys.{DerivedAuthKeys}
-use Rattle.session.specs.declared.keys.Gathered.{Gathered}
-use Rattle.session.proofs.Gathering.{needing_missing, missing_shape, missing_first, missing_rest, keys_of_append, keys_of_one, keys_long}
+use Rattle.session.specs.Derivation.{Derived, Derives, turned_down, derived, by_rows, lacks, needing, key_of, keys_of, group_des, user_des, des_rows, derived_des, key_length, chain_start, group_aes, individual_key, derived_aes, target, derived_by, chosen, derived_for, lengths_wrong, derive_rows, derived_before16, with_room, derivation}
+use Rattle.session.specs.inner.DerivationSteps.{refusing, forced_mark, bytes_of}
+use Rattle.session.specs.ServiceCode.{bearing}
+use Rattle.session.proofs.Gathering.{needing_append, keys_long, missing_none}
 use Rattle.session.proofs.NodeLists.{length_nodes}
 use Rattle.session.proofs.KeySearch.{length_entries}
 
 -- ---- refusals and deliveries
 
-module _ (r : DerivedAuthKeys) (room : ℕ) (out : List ℕ) where
-  turned_derives : (k n : ℕ) → Refuses k n r → Derives (turned_down k n) r out out
-  unfolding turned_down over
-  turned_derives k n h = record { number = h.number_is; node = h.node_is; scheme = h.scheme_none; length_is = h.length_none; transaction_none = h.transaction_none; output = refl }
+-- a definition that is known to refuse
+pub refusal_derives : (d : Derived) (room : ℕ) (out : List ℕ) (e : Refusal) → d ≡ refusing e → Derives (with_room room d) (Err e) out out
+unfolding with_room refusing turned_down choose over
+refusal_derives d room out e h = rw (h, le-ltb room 0 (omega arith)) (record { number = refl; node = refl; scheme = refl; length_is = refl; output = refl })
 
-  room_turned : (k n : ℕ) → with_room room (turned_down k n) ≡ turned_down k n
-  unfolding with_room turned_down choose
-  room_turned k n = rw (le-ltb room 0 (omega arith))
+-- the same where `?` passed the refusal on
+pub question_derives : (d : Derived) (room : ℕ) (out : List ℕ) (r : Result DerivedAuthKeys Refusal) (e : Refusal) → IsErrAnd r (λ x. x ≡ e) → d ≡ refusing e → Derives (with_room room d) r out out
+question_derives d room out r e q h = let p = err_from_is_err_and r q in rw (p.1, p.2) (refusal_derives d room out e h)
 
-  -- a definition that is known to refuse
-  pub refusal_derives : (d : Derived) (k n : ℕ) → d ≡ turned_down k n → Refuses k n r → Derives (with_room room d) r out out
-  refusal_derives d k n e h = rw (e, room_turned k n) (turned_derives k n h)
+module _ (scheme : Scheme) (b before : List ℕ) where
+  pub short_derives : length before < length b → Derives (with_room (length before) (derived (mark_of scheme) b)) (Err OutputTooSmall) before before
+  unfolding with_room derived turned_down choose over
+  short_derives h = rw (lt-ltb (length before) (length b) h) (record { number = refl; node = refl; scheme = refl; length_is = refl; output = refl })
 
-module _ (scheme : ℕ) (b : List ℕ) (r : DerivedAuthKeys) (before : List ℕ) where
-  pub short_derives : length before < length b → Refuses 16 0 r → Derives (with_room (length before) (derived scheme b)) r before before
+  pub delivery_derives : (n : ℕ) (after : List ℕ) → length b ≤ length before → n ≡ length b → after ≡ over b before → Derives (with_room (length before) (derived (mark_of scheme) b)) (Ok (record { length = n; scheme = scheme })) before after
   unfolding with_room derived choose
-  short_derives h f = rw (lt-ltb (length before) (length b) h) (turned_derives r 0 before 16 0 f)
-
-  pub delivery_derives : (after : List ℕ) → length b ≤ length before → (r.answer.number ≡ 0) × (r.answer.length ≡ length b) × (r.answer.transaction_number ≡ 0) → r.node ≡ 0 → r.scheme ≡ scheme → after ≡ over b before
-      → Derives (with_room (length before) (derived scheme b)) r before after
-  unfolding with_room derived choose
-  delivery_derives after h p q s w = rw (le-ltb (length before) (length b) h) (record { number = p.0; node = q; scheme = s; length_is = p.1; transaction_none = p.2; output = w })
+  delivery_derives n after h l w = rw (le-ltb (length before) (length b) h) (record { number = refl; node = refl; scheme = refl; length_is = l; output = w })
 
 -- ---- rows
 
-module _ (rows : List Row) (d : Derived) (k : ℕ) (e : k ≡ first_of rows) where
-  pub rows_refuse : (k ≡ 0 → ⊥) → by_rows rows d ≡ turned_down k 0
+module _ (rows : List Row) (d : Derived) where
+  pub rows_refuse : (e : Refusal) → (first_of rows ≡ refusal_number e) × (refusal_node e ≡ 0) → by_rows rows d ≡ refusing e
+  unfolding by_rows choose refusing
+  rows_refuse e h = let f : first_of rows ≢ 0 = λ z. refusal_some e (sym h.0 ∙ z) in rw (ne_eqb _ _ f, h.0, h.1)
+
+  pub rows_pass : first_of rows ≡ 0 → by_rows rows d ≡ d
   unfolding by_rows choose
-  rows_refuse h = rw (← e, ne_eqb k 0 h)
-
-  pub rows_pass : k ≡ 0 → by_rows rows d ≡ d
-  unfolding by_rows choose
-  rows_pass h = rw (← e, eq-eqb k 0 h)
-
--- ---- the scheme that is chosen
-
-module _ (es : List Entry) (areas services : List ℕ) where
-  listed : length (areas ++ services) ≡ length areas + length services
-  listed = length-append areas services
-
-  module _ (individual : List ℕ) where
-    chosen_empty : length areas + length services ≡ 0 → chosen es areas services individual ≡ turned_down 3 0
-    unfolding chosen by_rows first_of choose
-    chosen_empty h = rw (eq-eqb (length (areas ++ services)) 0 (listed ∙ h))
-
-    chosen_full : (length areas + length services ≡ 0 → ⊥) → chosen es areas services individual
-        ≡ choose (has es (target areas services) 2) (derived_by 2 es areas services individual) (choose (has es (target areas services) 1) (derived_by 1 es areas services individual) (turned_down 4 (target areas services)))
-    unfolding chosen by_rows first_of choose
-    chosen_full h = let f : (length (areas ++ services) ≡ 0 → ⊥) = λ z. h (sym listed ∙ z) in rw (ne_eqb (length (areas ++ services)) 0 f)
-
-  module _ (mark : ℕ) (r : Choice) where
-    for_mark : (mark ≡ 0 → ⊥) → (individual : List ℕ) → derived_for mark es areas services individual ≡ derived_by mark es areas services individual
-    unfolding derived_for choose
-    for_mark h individual = rw (ne_eqb mark 0 h)
-
-    for_zero : mark ≡ 0 → (individual : List ℕ) → derived_for mark es areas services individual ≡ chosen es areas services individual
-    unfolding derived_for choose
-    for_zero h individual = rw (eq-eqb mark 0 h)
-
-    goes_by : (scheme : ℕ) → (r.number ≡ 0) × (r.node ≡ 0) × (r.scheme ≡ scheme) → ((individual : List ℕ) → derived_for mark es areas services individual ≡ derived_by scheme es areas services individual)
-        → Chooses mark es areas services r
-    unfolding choose
-    goes_by scheme h f =
-        record { goes = λ i. f i ∙ ap (λ (s : ℕ). derived_by s es areas services i) (sym h.2) ∙ rw (eq-eqb r.number 0 h.0) }
-
-    goes_refused : (k n : ℕ) → (r.number ≡ k) × (r.node ≡ n) → (k ≡ 0 → ⊥) → ((individual : List ℕ) → derived_for mark es areas services individual ≡ turned_down k n) → Chooses mark es areas services r
-    unfolding choose
-    goes_refused k n h z f =
-        let y : (r.number ≡ 0 → ⊥) = λ q. z (sym h.0 ∙ q) in
-        record { goes = λ i. f i ∙ ap₂ turned_down (sym h.0) (sym h.1) ∙ rw (ne_eqb r.number 0 y) }
-
-    pub chooses_mark : (mark ≡ 0 → ⊥) → (r.number ≡ 0) × (r.node ≡ 0) × (r.scheme ≡ mark) → Chooses mark es areas services r
-    chooses_mark h f = goes_by mark f (for_mark h)
-
-    module _ (z : mark ≡ 0) where
-      pub chooses_none : length areas + length services ≡ 0 → (r.number ≡ 3) × (r.node ≡ 0) → Chooses mark es areas services r
-      chooses_none h f = goes_refused 3 0 f (λ q. omega arith) (λ i. for_zero z i ∙ chosen_empty i h)
-
-      module _ (full : length areas + length services ≡ 0 → ⊥) (t : ℕ) (e : t ≡ target areas services) (a : Bool) (p : a ≡ has es t 2) where
-        has_target : (k : ℕ) (x y : Bool) → x ≡ has es t k → x ≡ y → has es (target areas services) k ≡ y
-        has_target k x y q w = ap (λ (n : ℕ). has es n k) (sym e) ∙ sym q ∙ w
-
-        pub chooses_aes : a ≡ true → (r.number ≡ 0) × (r.node ≡ 0) × (r.scheme ≡ 2) → Chooses mark es areas services r
-        unfolding choose
-        chooses_aes w f = goes_by 2 f (λ i. for_zero z i ∙ chosen_full i full ∙ rw (has_target 2 a true p w))
-
-        module _ (w : a ≡ false) (b : Bool) (q : b ≡ has es t 1) where
-          pub chooses_des : b ≡ true → (r.number ≡ 0) × (r.node ≡ 0) × (r.scheme ≡ 1) → Chooses mark es areas services r
-          unfolding choose
-          chooses_des v f = goes_by 1 f (λ i. for_zero z i ∙ chosen_full i full ∙ rw (has_target 2 a false p w, has_target 1 b true q v))
-
-          pub chooses_lacking : b ≡ false → (r.number ≡ 4) × (r.node ≡ t) → Chooses mark es areas services r
-          unfolding choose
-          chooses_lacking v f =
-              goes_refused 4 t f (λ y. omega arith) (λ i. for_zero z i ∙ chosen_full i full ∙ rw (has_target 2 a false p w, has_target 1 b false q v) (ap (turned_down 4) (sym e)))
-
--- the scheme that was chosen has answered
-module _ (mark : ℕ) (es : List Entry) (areas services individual : List ℕ) (g : Choice) (c : Chooses mark es areas services g) where
-  pub choice_refused : (r : DerivedAuthKeys) (room : ℕ) (out : List ℕ) → (g.number ≡ 0 → ⊥) → Refuses g.number g.node r → Derives (with_room room (derived_for mark es areas services individual)) r out out
-  unfolding choose
-  choice_refused r room out h f = refusal_derives r room out _ g.number g.node (c.goes individual ∙ rw (ne_eqb g.number 0 h)) f
-
-  module _ (z : g.number ≡ 0) (room : ℕ) (r : DerivedAuthKeys) (before after : List ℕ) where
-    by_choice : derived_for mark es areas services individual ≡ derived_by g.scheme es areas services individual
-    unfolding choose
-    by_choice = c.goes individual ∙ rw (eq-eqb g.number 0 z)
-
-    pub choice_des : g.scheme ≡ 1 → Derives (with_room room (derived_des es areas services individual)) r before after → Derives (with_room room (derived_for mark es areas services individual)) r before after
-    unfolding derived_by choose
-    choice_des s d = rw (by_choice, eq-eqb g.scheme 1 s) d
-
-    pub choice_aes : (g.scheme ≡ 1 → ⊥) → Derives (with_room room (derived_aes es areas services individual)) r before after → Derives (with_room room (derived_for mark es areas services individual)) r before after
-    unfolding derived_by choose
-    choice_aes s d = rw (by_choice, ne_eqb g.scheme 1 s) d
-
--- ---- DES
-
-des_steps : (es : List Entry) (areas services individual : List ℕ) → derived_des es areas services individual
-    ≡ by_rows (des_rows (length individual) (length areas) (length (bearing services))) (bearing_des es areas (bearing services))
-unfolding derived_des des_rows bearing_des chain_des group_des user_des
-des_steps es areas services individual = refl
-
--- n services bear a key
-module _ (es : List Entry) (areas services individual : List ℕ) (n : ℕ) (count : n ≡ length (bearing services)) where
-  module _ (k : ℕ) (g : k ≡ first_of (des_rows (length individual) (length areas) n)) (r : DerivedAuthKeys) (room : ℕ) where
-    des_guard : k ≡ first_of (des_rows (length individual) (length areas) (length (bearing services)))
-    des_guard = g ∙ ap (λ (m : ℕ). first_of (des_rows (length individual) (length areas) m)) count
-
-    pub des_refused : (out : List ℕ) → (k ≡ 0 → ⊥) → Refuses k 0 r → Derives (with_room room (derived_des es areas services individual)) r out out
-    des_refused out h f = refusal_derives r room out _ k 0 (des_steps es areas services individual ∙ rows_refuse _ _ k des_guard h) f
-
-    pub des_passed : (kept before after : List ℕ) → kept ≡ bearing services → k ≡ 0 → Derives (with_room room (bearing_des es areas kept)) r before after
-        → Derives (with_room room (derived_des es areas services individual)) r before after
-    des_passed kept before after e h d = rw (des_steps es areas services individual, rows_pass _ _ k des_guard h) (rw e at d)
-
--- ---- gathered keys
-
-module _ (es : List Entry) (a : ℕ) (ns : List ℕ) (g : Gathered) (w : List ℕ) (s : Holds es a ns g w) (d : Derived) where
-  pub gather_refused : (g.number ≡ 0 → ⊥) → needing es a ns d ≡ turned_down g.number g.node
-  unfolding choose
-  gather_refused h =
-      let f : ((missing es a ns).number ≡ 0 → ⊥) = λ z. h (s.number ∙ z) in
-      needing_missing es a ns d ∙ rw (ne_eqb _ _ f) (missing_shape es a ns ∙ ap₂ turned_down (sym s.number) (sym s.node))
-
-  pub gather_passed : g.number ≡ 0 → needing es a ns d ≡ d
-  unfolding choose
-  gather_passed h = let f : (missing es a ns).number ≡ 0 = sym s.number ∙ h in needing_missing es a ns d ∙ rw (eq-eqb _ _ f)
-
--- three parts of a list, and where they stand
-module _ (l a b c : List ℕ) (e : l ≡ a ++ (b ++ c)) (k : ℕ) (p : length a ≡ 8) (q : length b ≡ k * 8) where
-  first_part : take 8 l ≡ a
-  first_part = ap (take 8) e ∙ take_at a (b ++ c) 8 p
-
-  after_first : drop 8 l ≡ b ++ c
-  after_first = ap (drop 8) e ∙ drop_at a (b ++ c) 8 p
-
-  second_part : take (8 + k * 8 - 8) (drop 8 l) ≡ b
-  second_part = ap (take (8 + k * 8 - 8)) after_first ∙ take_at b c (8 + k * 8 - 8) (omega arith)
-
-  third_part : drop (8 + k * 8) l ≡ c
-  third_part = sym (drop-drop (k * 8) 8 l) ∙ ap (drop (k * 8)) after_first ∙ drop_at b c (k * 8) q
-
-module _ (keys areas services : List ℕ) (g : Gathered) (w : List ℕ) (s : Holds (entries keys) 1 (0xFFFF ∷ (areas ++ services)) g w) where
-  pub bearing_refused : (room : ℕ) (r : DerivedAuthKeys) (out : List ℕ) → (g.number ≡ 0 → ⊥) → Refuses g.number g.node r → Derives (with_room room (bearing_des (entries keys) areas services)) r out out
-  unfolding bearing_des
-  bearing_refused room r out h f = refusal_derives r room out _ g.number g.node (gather_refused (entries keys) 1 _ g w s _ h) f
-
-  module _ (z : g.number ≡ 0) where
-    all_there : (missing (entries keys) 1 (0xFFFF ∷ (areas ++ services))).number ≡ 0
-    all_there = sym s.number ∙ z
-
-    all_keys : take g.size w ≡ key_of (entries keys) 1 0xFFFF ++ (keys_of (entries keys) 1 areas ++ keys_of (entries keys) 1 services)
-    unfolding keys_of
-    all_keys = s.bytes z ∙ ap (λ (l : List ℕ). key_of (entries keys) 1 0xFFFF ++ l) (keys_of_append (entries keys) 1 areas services)
-
-    system_long : length (key_of (entries keys) 1 0xFFFF) ≡ 8
-    unfolding key_length choose
-    system_long =
-        ap length (sym (keys_of_one (entries keys) 1 0xFFFF)) ∙ keys_long keys 1 (0xFFFF ∷ []) (missing_first (entries keys) 1 (0xFFFF ∷ []) (areas ++ services) all_there)
-
-    areas_long : length (keys_of (entries keys) 1 areas) ≡ length areas * 8
-    unfolding key_length choose
-    areas_long = keys_long keys 1 areas (missing_first (entries keys) 1 areas services (missing_rest (entries keys) 1 (0xFFFF ∷ []) (areas ++ services) all_there))
-
-    -- the keys of the areas end within
-    pub middle_within : 8 + length areas * 8 ≤ length (take g.size w)
-    middle_within = rw all_keys (simp length-append (omega (arith, system_long, areas_long)))
-
-    pub bearing_passed : (room : ℕ) (r : DerivedAuthKeys) (before after : List ℕ)
-        → Derives (with_room room (derived 1 (chain_des (take 8 (take g.size w)) (take (8 + length areas * 8 - 8) (drop 8 (take g.size w))) (drop (8 + length areas * 8) (take g.size w))))) r before after
-        → Derives (with_room room (bearing_des (entries keys) areas services)) r before after
-    unfolding bearing_des
-    bearing_passed room r before after d =
-        let l : List ℕ = take g.size w in
-        let x : List ℕ = key_of (entries keys) 1 0xFFFF in
-        let y : List ℕ = keys_of (entries keys) 1 areas in
-        let v : List ℕ = keys_of (entries keys) 1 services in
-        rw (gather_passed (entries keys) 1 _ g w s (derived 1 (chain_des (key_of (entries keys) 1 0xFFFF) (keys_of (entries keys) 1 areas) (keys_of (entries keys) 1 services))) z)
-        (rw (first_part l x y v all_keys (length areas) system_long areas_long, second_part l x y v all_keys (length areas) system_long areas_long, third_part l x y v all_keys (length areas) system_long areas_long) at d)
-
--- the chain, from its steps over gathered keys
-pub chain_is : (g : List ℕ) (middle : ℕ) (system group user : List ℕ) → system ≡ take 8 g → group ≡ under_each des_encrypt 8 (take (middle - 8) (drop 8 g)) system
-    → user ≡ under_each des_encrypt 8 (take (length g - middle) (drop middle g)) group → group ++ user ≡ chain_des (take 8 g) (take (middle - 8) (drop 8 g)) (drop middle g)
-unfolding chain_des
-chain_is g middle system group user e p q =
-    let h : group ≡ under_each des_encrypt 8 (take (middle - 8) (drop 8 g)) (take 8 g) = p ∙ ap (under_each des_encrypt 8 (take (middle - 8) (drop 8 g))) e in
-    ap₂ (λ (x y : List ℕ). x ++ y) h (q ∙ ap₂ (under_each des_encrypt 8) (rest_part g middle) h)
-
--- ---- AES
-
-aes_steps : (es : List Entry) (areas services individual : List ℕ) → derived_aes es areas services individual
-    ≡ needing es 2 (areas ++ services) (by_rows (row 3 (eqb (length (areas ++ services)) 0) ∷ []) (derived 2 (group_aes es (areas ++ services) ++ individual_key individual)))
-unfolding derived_aes
-aes_steps es areas services individual = refl
-
-module _ (keys areas services individual : List ℕ) (g : Gathered) (w : List ℕ) (s : Holds (entries keys) 2 (areas ++ services) g w) (room : ℕ) (r : DerivedAuthKeys) where
-  pub aes_refused : (out : List ℕ) → (g.number ≡ 0 → ⊥) → Refuses g.number g.node r → Derives (with_room room (derived_aes (entries keys) areas services individual)) r out out
-  aes_refused out h f = refusal_derives r room out _ g.number g.node (aes_steps (entries keys) areas services individual ∙ gather_refused (entries keys) 2 _ g w s _ h) f
-
-  module _ (z : g.number ≡ 0) where
-    size_is : g.size ≡ length (areas ++ services) * 16
-    unfolding key_length choose
-    size_is =
-        let i = s.within in
-        sym (length-take-le g.size w i) ∙ ap length (s.bytes z) ∙ keys_long keys 2 (areas ++ services) (sym s.number ∙ z)
-
-    pub aes_none : (out : List ℕ) → g.size ≡ 0 → Refuses 3 0 r → Derives (with_room room (derived_aes (entries keys) areas services individual)) r out out
-    unfolding first_of choose
-    aes_none out h f =
-        let e : length (areas ++ services) ≡ 0 = omega (arith, size_is) in
-        refusal_derives r room out _ 3 0
-        (aes_steps (entries keys) areas services individual ∙ gather_passed (entries keys) 2 _ g w s _ z ∙ rows_refuse _ _ 3 (rw (eq-eqb (length (areas ++ services)) 0 e)) (λ q. omega arith))
-        f
-
-    pub aes_passed : (group own before after : List ℕ) → (g.size ≡ 0 → ⊥) → group ≡ under_each aes_encrypt 16 (take g.size w) chain_start → own ≡ individual_key individual
-        → Derives (with_room room (derived 2 (group ++ own))) r before after → Derives (with_room room (derived_aes (entries keys) areas services individual)) r before after
-    unfolding first_of choose group_aes
-    aes_passed group own before after h p q d =
-        let f : (length (areas ++ services) ≡ 0 → ⊥) = λ y. h (size_is ∙ omega arith) in
-        let e : derived_aes (entries keys) areas services individual ≡ derived 2 (group_aes (entries keys) (areas ++ services) ++ individual_key individual) =
-        aes_steps (entries keys) areas services individual ∙ gather_passed (entries keys) 2 _ g w s _ z ∙ rows_pass _ _ 0 (rw (ne_eqb (length (areas ++ services)) 0 f)) refl in
-        rw e (rw (p, q, s.bytes z) at d)
-
--- an individual key was copied over zeros
-pub own_copied : (individual b : List ℕ) → either (eqb (length individual) 0) (eqb (length individual) 16) ≡ true → b ≡ take (length {A = ℕ} (replicate 16 0)) individual ++ drop (length individual) (replicate 16 0)
-    → b ≡ individual_key individual
-unfolding individual_key either choose
-own_copied individual b h e = go (eqb (length individual) 0) refl h
-  where
-    go : (t : Bool) → eqb (length individual) 0 ≡ t → either t (eqb (length individual) 16) ≡ true → b ≡ choose t (replicate 16 0) individual
-    go true z h = let n : [] ≡ individual = empty individual (eqb-true _ _ z) in rw (← n) at e
-    go false z h = copied individual (replicate 16 0) b e (sym (eqb-true _ _ h))
+  rows_pass h = rw (eq-eqb _ _ h)
 
 -- ---- 17, 1, 2
 
--- a row that holds gives its number
-pub first_row : (b : Bool) (m rest : ℕ) → b ≡ true → m ≡ choose b m rest
-unfolding choose
-first_row b m rest e = rw e
+module _ (keys areas services : List ℕ) (k : length keys % 19 ≡ 0) (a : length areas % 2 ≡ 0) (s : length services % 2 ≡ 0) where
+  -- lists of whole entries and nodes: 17 is for an unknown algorithm
+  pub lists_whole : first_of (derive_rows 0 keys areas services [])
+      ≡ choose (unknown_algorithm (entries keys)) 17 (choose (either (ltb 128 (length keys / 19)) (either (ltb 32 (length areas / 2)) (ltb 32 (length services / 2)))) 1 (choose (twice (entries keys)) 2 0))
+  unfolding derive_rows lengths_wrong first_of either isnt
+  lists_whole = rw (eq-eqb _ _ k, eq-eqb _ _ a, eq-eqb _ _ s, length_entries, length_nodes areas, length_nodes services)
 
--- the number of entries and nodes, by the lengths of their lists
-pub too_many : (keys areas services : List ℕ) → either (ltb 128 (length (entries keys))) (either (ltb 32 (length (nodes areas))) (ltb 32 (length (nodes services))))
-    ≡ either (ltb 128 (length keys / 19)) (either (ltb 32 (length areas / 2)) (ltb 32 (length services / 2)))
-too_many keys areas services = rw (length_entries keys, length_nodes areas, length_nodes services)
+  -- no algorithm is unknown
+  module _ (known : unknown_algorithm (entries keys) ≡ false) where
+    pub lists_known : first_of (derive_rows 0 keys areas services []) ≡ choose (either (ltb 128 (length keys / 19)) (either (ltb 32 (length areas / 2)) (ltb 32 (length services / 2)))) 1 (choose (twice (entries keys)) 2 0)
+    unfolding choose
+    lists_known = lists_whole ∙ rw known
 
--- what a guard's 0 says
-module _ (mark : ℕ) (keys areas services individual : List ℕ) where
-  pub record Passed : Type 0 where
-    pub few_areas : length areas / 2 ≤ 32
-    pub few_services : length services / 2 ≤ 32
-    pub individual_fits : either (eqb (length individual) 0) (eqb (length individual) 16) ≡ true
+    -- there are not too many
+    pub lists_few : length keys / 19 ≤ 128 → length areas / 2 ≤ 32 → length services / 2 ≤ 32 → first_of (derive_rows 0 keys areas services []) ≡ choose (twice (entries keys)) 2 0
+    unfolding choose either
+    lists_few m n o = lists_known ∙ rw (le-ltb _ _ m, le-ltb _ _ n, le-ltb _ _ o)
 
-  pub guard_passed : (k : ℕ) → k ≡ first_of (derive_rows mark keys areas services individual) → k ≡ 0 → Passed
-  unfolding derive_rows lengths_wrong numbered both
-  guard_passed k e z =
-      let f = first_passes (derive_rows mark keys areas services individual) k refl e z in
-      let u = (either_false _ _ (either_false _ _ f.0).1).0 in
-      let v = (either_false _ _ (either_false _ _ (either_false _ _ u).1).1).1 in
-      let m = (either_false _ _ f.1.0).1 in
-      let a = (either_false _ _ m).0 in
-      let b = (either_false _ _ m).1 in
-      let p : length (nodes areas) ≤ 32 = ltb-false 32 _ a in
-      let q : length (nodes services) ≤ 32 = ltb-false 32 _ b in
-      record { few_areas = rw (← length_nodes areas) p; few_services = rw (← length_nodes services) q; individual_fits = isnt_false _ v }
+-- ---- the whole derivation
 
-  module _ (room k : ℕ) (e : k ≡ first_of (derive_rows mark keys areas services individual)) (r : DerivedAuthKeys) where
-    pub guard_refused : (out : List ℕ) → (k ≡ 0 → ⊥) → Refuses k 0 r → Derives (derivation mark keys areas services individual room) r out out
+-- what no refusal of the lists says
+pub few_lists : (keys areas services : List ℕ) → first_of (derive_rows 0 keys areas services []) ≡ 0 → (length areas / 2 ≤ 32) × (length services / 2 ≤ 32)
+unfolding derive_rows numbered both
+few_lists keys areas services e =
+    let f = first_passes (derive_rows 0 keys areas services []) 0 refl (sym e) refl in
+    let m = (either_false _ _ f.1.0).1 in
+    let p : length (nodes areas) ≤ 32 = ltb-false 32 _ (either_false _ _ m).0 in
+    let q : length (nodes services) ≤ 32 = ltb-false 32 _ (either_false _ _ m).1 in
+    (rw (← length_nodes areas) p, rw (← length_nodes services) q)
+
+-- and of the individual key
+pub own_fits : (mark : ℕ) (keys areas services individual : List ℕ) → first_of (derive_rows mark keys areas services individual) ≡ 0 → either (eqb (length individual) 0) (eqb (length individual) 16) ≡ true
+unfolding derive_rows lengths_wrong numbered both
+own_fits mark keys areas services individual e =
+    let f = first_passes (derive_rows mark keys areas services individual) 0 refl (sym e) refl in
+    let u = (either_false _ _ (either_false _ _ f.0).1).0 in
+    isnt_false _ (either_false _ _ (either_false _ _ (either_false _ _ u).1).1).1
+
+-- the mark of a scheme that is forced
+forced_low : (o : Option Scheme) → forced_mark o ≤ 2
+forced_low None = omega arith
+forced_low (Some Des) = omega arith
+forced_low (Some Aes128) = omega arith
+
+-- an individual key has its length
+own_length : (o : Option (List ℕ)) (k : List ℕ) → IfSome o (λ x. length x ≡ 16) → bytes_of o ≡ k → either (eqb (length k) 0) (eqb (length k) 16) ≡ true
+unfolding either
+own_length None k h e = rw (← e)
+own_length (Some x) k h e = rw (← e, h)
+
+either_right : (a : Bool) → either a true ≡ true
+unfolding either
+either_right true = refl
+either_right false = refl
+
+module _ (mark : ℕ) (keys areas services individual : List ℕ) (room : ℕ) where
+  module _ (out : List ℕ) (r : Result DerivedAuthKeys Refusal) (e : Refusal) (q : IsErrAnd r (λ x. x ≡ e)) where
+    pub rows_derives : (first_of (derive_rows mark keys areas services individual) ≡ refusal_number e) × (refusal_node e ≡ 0) → Derives (derivation mark keys areas services individual room) r out out
     unfolding derivation derived_before16
-    guard_refused out h f = refusal_derives r room out _ k 0 (rows_refuse _ _ k e h) f
+    rows_derives h = question_derives _ room out r e q (rows_refuse _ _ e h)
 
-    pub guard_derives : (a s before after : List ℕ) → k ≡ 0 → a ≡ nodes areas → s ≡ nodes services → Derives (with_room room (derived_for mark (entries keys) a s individual)) r before after
-        → Derives (derivation mark keys areas services individual room) r before after
-    unfolding derivation derived_before16
-    guard_derives a s before after h p q d = rw (rows_pass (derive_rows mark keys areas services individual) _ k e h) (rw (p, q) at d)
+    -- an unknown mark
+    pub mark_derives : (e ≡ BadMarkOrLength) × (2 < mark) → Derives (derivation mark keys areas services individual room) r out out
+    unfolding derive_rows first_of either choose
+    mark_derives h = rows_derives (rw (h.0, lt-ltb 2 mark h.1) (refl, refl))
+
+    -- an individual key of another length
+    pub individual_derives : (e ≡ BadMarkOrLength) × (length individual ≢ 0) × (length individual ≢ 16) → Derives (derivation mark keys areas services individual room) r out out
+    unfolding derive_rows lengths_wrong first_of either isnt choose
+    individual_derives h = rows_derives (rw (h.0, ne_eqb _ _ h.1, ne_eqb _ _ h.2) (rw (either_right, either_right, either_right, either_right), refl))
+
+  -- the mark and the individual key are right
+  module _ (o : Option Scheme) (em : forced_mark o ≡ mark) (k : Option (List ℕ)) (long : IfSome k (λ x. length x ≡ 16)) (ek : bytes_of k ≡ individual) where
+    same_rows : derive_rows mark keys areas services individual ≡ derive_rows 0 keys areas services []
+    unfolding derive_rows lengths_wrong either
+    same_rows =
+        let h : mark ≤ 2 = omega (arith, forced_low o, em) in
+        let f : either (eqb (length individual) 0) (eqb (length individual) 16) ≡ true = own_length k individual long ek in
+        rw (le-ltb 2 mark h, f)
+
+    pub lists_derive : (out : List ℕ) (r : Result DerivedAuthKeys Refusal) (e : Refusal) → IsErrAnd r (λ x. x ≡ e) → (first_of (derive_rows 0 keys areas services []) ≡ refusal_number e) × (refusal_node e ≡ 0)
+        → Derives (derivation mark keys areas services individual room) r out out
+    lists_derive out r e q h = rows_derives out r e q (ap first_of same_rows ∙ h.0, h.1)
+
+    module _ (passed : first_of (derive_rows 0 keys areas services []) ≡ 0) where
+      goes : derivation mark keys areas services individual room ≡ with_room room (derived_for (forced_mark o) (entries keys) (nodes areas) (nodes services) (bytes_of k))
+      unfolding derivation derived_before16
+      goes = ap (with_room room) (rows_pass _ _ (ap first_of same_rows ∙ passed)) ∙ rw (em, ek)
+
+      -- the choice of a scheme refused
+      pub choice_derives : (out : List ℕ) (r : Result DerivedAuthKeys Refusal) (e : Refusal) → IsErrAnd r (λ x. x ≡ e)
+          → ((i : List ℕ) → derived_for (forced_mark o) (entries keys) (nodes areas) (nodes services) i ≡ refusing e) → Derives (derivation mark keys areas services individual room) r out out
+      choice_derives out r e q h = rw goes (question_derives _ room out r e q (h _))
+
+      -- s was chosen
+      module _ (s : Scheme) (h : (i : List ℕ) → derived_for (forced_mark o) (entries keys) (nodes areas) (nodes services) i ≡ derived_by (mark_of s) (entries keys) (nodes areas) (nodes services) i)
+          (r : Result DerivedAuthKeys Refusal) (before after : List ℕ) where
+        pub des_derives : s ≡ Des → Derives (with_room room (derived_des (entries keys) (nodes areas) (nodes services) (bytes_of k))) r before after → Derives (derivation mark keys areas services individual room) r before after
+        unfolding derived_by choose
+        des_derives e d = rw (goes, h (bytes_of k), e) d
+
+        pub aes_derives : s ≡ Aes128 → Derives (with_room room (derived_aes (entries keys) (nodes areas) (nodes services) (bytes_of k))) r before after → Derives (derivation mark keys areas services individual room) r before after
+        unfolding derived_by choose
+        aes_derives e d = rw (goes, h (bytes_of k), e) d
+
+-- ---- the scheme that is chosen
+
+-- a scheme is forced
+pub chosen_forced : (es : List Entry) (areas services : List ℕ) (o : Option Scheme) (s : Scheme) → o ≡ Some s → (individual : List ℕ)
+    → derived_for (forced_mark o) es areas services individual ≡ derived_by (mark_of s) es areas services individual
+unfolding derived_for choose
+chosen_forced es areas services o s e individual = rw (e, ne_eqb (mark_of s) 0 (mark_some s))
+  where
+    mark_some : (t : Scheme) → mark_of t ≢ 0
+    mark_some Des = λ z. omega arith
+    mark_some Aes128 = λ z. omega arith
+
+-- none is forced
+pub unforced : (o : Option Scheme) → ((s : Scheme) → o ≡ Some s → ⊥) → forced_mark o ≡ 0
+unforced None h = refl
+unforced (Some s) h = absurd (h s refl)
+
+module _ (es : List Entry) (areas services : List ℕ) (mark : ℕ) (z : mark ≡ 0) where
+  -- no node is listed
+  pub chosen_none : length (areas ++ services) ≡ 0 → (individual : List ℕ) → derived_for mark es areas services individual ≡ refusing NoNodes
+  unfolding derived_for chosen by_rows first_of choose refusing
+  chosen_none h individual = rw (z, eq-eqb (length (areas ++ services)) 0 h)
+
+  -- t is the target
+  module _ (full : length (areas ++ services) ≢ 0) (t : ℕ) (et : t ≡ target areas services) where
+    chosen_some : (individual : List ℕ) → derived_for mark es areas services individual
+        ≡ choose (has es t 2) (derived_by 2 es areas services individual) (choose (has es t 1) (derived_by 1 es areas services individual) (turned_down 4 t))
+    unfolding derived_for chosen by_rows first_of choose
+    chosen_some individual = rw (z, et, ne_eqb (length (areas ++ services)) 0 full)
+
+    -- a says whether it has an AES key
+    module _ (a : Bool) (ea : a ≡ has es t 2) where
+      pub chosen_aes : a ≡ true → (individual : List ℕ) → derived_for mark es areas services individual ≡ derived_by 2 es areas services individual
+      unfolding choose
+      chosen_aes h individual = chosen_some individual ∙ rw (sym ea ∙ h)
+
+      -- b says whether it has a DES key
+      module _ (h : a ≡ false) (b : Bool) (eb : b ≡ has es t 1) where
+        pub chosen_des : b ≡ true → (individual : List ℕ) → derived_for mark es areas services individual ≡ derived_by 1 es areas services individual
+        unfolding choose
+        chosen_des k individual = chosen_some individual ∙ rw (sym ea ∙ h, sym eb ∙ k)
+
+        pub chosen_lacking : b ≡ false → (individual : List ℕ) → derived_for mark es areas services individual ≡ refusing (KeyMissing t)
+        unfolding choose refusing
+        chosen_lacking k individual = chosen_some individual ∙ rw (sym ea ∙ h, sym eb ∙ k)
+
+-- `ok_or` of a target that is not there
+pub no_target : (P : Type 0) (Q : ℕ → Type 0) (r : Option ℕ) (e : Refusal) → MatchOption r P Q → Err e ≡ ok_or r NoNodes → P × (NoNodes ≡ e)
+no_target P Q None e h k = (h, cc)
+no_target P Q (Some t) e h k = absurd (cc)
+
+-- ---- DES
+
+-- whether there is an individual key
+pub bytes_none : (o : Option (List ℕ)) (t : Bool) → t ≡ is_some o → t ≡ false → bytes_of o ≡ []
+bytes_none None t e h = refl
+bytes_none (Some k) t e h = absurd (cc)
+
+pub bytes_some : (o : Option (List ℕ)) (t : Bool) → IfSome o (λ k. length k ≡ 16) → t ≡ is_some o → t ≡ true → length (bytes_of o) ≢ 0
+bytes_some None t l e h = absurd (cc)
+bytes_some (Some k) t l e h = λ z. omega arith
+
+module _ (es : List Entry) (areas services k : List ℕ) where
+  des_steps : derived_des es areas services k
+      ≡ by_rows (des_rows (length k) (length areas) (length (bearing services))) (needing es 1 (0xFFFF ∷ (areas ++ bearing services)) (derived 1 (group_des es areas ++ user_des es areas services)))
+  unfolding derived_des
+  des_steps = refl
+
+  pub des_refused : (e : Refusal) → (first_of (des_rows (length k) (length areas) (length (bearing services))) ≡ refusal_number e) × (refusal_node e ≡ 0) → derived_des es areas services k ≡ refusing e
+  des_refused e h = des_steps ∙ rows_refuse _ _ e h
+
+  module _ (passed : first_of (des_rows (length k) (length areas) (length (bearing services))) ≡ 0) where
+    des_goes : derived_des es areas services k ≡ needing es 1 (0xFFFF ∷ (areas ++ bearing services)) (derived 1 (group_des es areas ++ user_des es areas services))
+    des_goes = des_steps ∙ rows_pass _ _ passed
+
+    pub des_no_system : (e : Refusal) → (has es 0xFFFF 1 ≡ false) × (lacks es 0xFFFF 1 ≡ refusing e) → derived_des es areas services k ≡ refusing e
+    unfolding needing choose
+    des_no_system e h = des_goes ∙ rw h.0 h.1
+
+    module _ (system : has es 0xFFFF 1 ≡ true) where
+      des_chain : derived_des es areas services k ≡ needing es 1 areas (needing es 1 (bearing services) (derived 1 (group_des es areas ++ user_des es areas services)))
+      unfolding needing choose
+      des_chain = des_goes ∙ rw system (needing_append es 1 areas (bearing services) _)
+
+      pub des_lacks_area : (e : Refusal) → ((d : Derived) → needing es 1 areas d ≡ refusing e) → derived_des es areas services k ≡ refusing e
+      des_lacks_area e h = des_chain ∙ h _
+
+      module _ (all : (d : Derived) → needing es 1 areas d ≡ d) where
+        pub des_lacks_service : (e : Refusal) → ((d : Derived) → needing es 1 (bearing services) d ≡ refusing e) → derived_des es areas services k ≡ refusing e
+        des_lacks_service e h = des_chain ∙ all _ ∙ h _
+
+        -- group and user are what the chains gave
+        pub des_given : ((d : Derived) → needing es 1 (bearing services) d ≡ d) → (s group user : List ℕ) → s ≡ key_of es 1 0xFFFF
+            → group ≡ under_each des_encrypt 8 (keys_of es 1 areas) s → user ≡ under_each des_encrypt 8 (keys_of es 1 (bearing services)) group → derived_des es areas services k ≡ derived 1 (group ++ user)
+        unfolding group_des user_des
+        des_given h s group user e p q =
+            let g : group ≡ group_des es areas = p ∙ ap (under_each des_encrypt 8 (keys_of es 1 areas)) e in
+            let u : user ≡ user_des es areas services = q ∙ ap (under_each des_encrypt 8 (keys_of es 1 (bearing services))) g in
+            des_chain ∙ all _ ∙ h _ ∙ ap (derived 1) (sym (ap₂ ◌++◌ g u))
+
+-- ---- AES
+
+module _ (es : List Entry) (areas services k : List ℕ) where
+  aes_steps : derived_aes es areas services k ≡ needing es 2 (areas ++ services) (by_rows (row 3 (eqb (length (areas ++ services)) 0) ∷ []) (derived 2 (group_aes es (areas ++ services) ++ individual_key k)))
+  unfolding derived_aes
+  aes_steps = refl
+
+  pub aes_lacks : (e : Refusal) → ((d : Derived) → needing es 2 (areas ++ services) d ≡ refusing e) → derived_aes es areas services k ≡ refusing e
+  aes_lacks e h = aes_steps ∙ h _
+
+  module _ (all : (d : Derived) → needing es 2 (areas ++ services) d ≡ d) where
+    pub aes_none : length (areas ++ services) ≡ 0 → derived_aes es areas services k ≡ refusing NoNodes
+    unfolding by_rows first_of choose refusing
+    aes_none h = aes_steps ∙ all _ ∙ rw (eq-eqb _ _ h)
+
+    pub aes_given : length (areas ++ services) ≢ 0 → (x group own : List ℕ) → x ≡ keys_of es 2 (areas ++ services) → group ≡ under_each aes_encrypt 16 x chain_start → own ≡ individual_key k
+        → derived_aes es areas services k ≡ derived 2 (group ++ own)
+    unfolding by_rows first_of choose group_aes
+    aes_given h x group own e p q =
+        let g : group ≡ group_aes es (areas ++ services) = p ∙ ap (λ (l : List ℕ). under_each aes_encrypt 16 l chain_start) e in
+        aes_steps ∙ all _ ∙ rw (ne_eqb _ _ h) (ap (derived 2) (sym (ap₂ ◌++◌ g q)))
+
+-- where nothing is missing, the keys are as many as the nodes
+pub gathered_size : (keys : List ℕ) (ns : List ℕ) (size : ℕ) (w : List ℕ) → ((d : Derived) → needing (entries keys) 2 ns d ≡ d) → size ≤ length w → take size w ≡ keys_of (entries keys) 2 ns → size ≡ length ns * 16
+unfolding key_length choose
+gathered_size keys ns size w all h e = sym (length-take-le size w h) ∙ ap length e ∙ keys_long keys 2 ns (missing_none (entries keys) 2 ns all)
+
+-- zeros stand for an absent individual key
+pub own_key : (o : Option (List ℕ)) → IfSome o (λ k. length k ≡ 16) → unwrap_or o (replicate 16 0) ≡ individual_key (bytes_of o)
+unfolding individual_key choose
+own_key None h = refl
+own_key (Some k) h = rw (ne_eqb (length k) 0 (λ z. omega arith))

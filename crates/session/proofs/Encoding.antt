@@ -13,8 +13,8 @@ use Rattle.answer.specs.Number.{number_bytes, number_of}
 use Rattle.answer.specs.Outcome.{choose, over}
 use Rattle.answer.specs.Tests.{either, both}
 use Rattle.answer.proofs.Elements.{elements, written_out}
-use Rattle.answer.proofs.Outputs.{copied_over}
-use Rattle.answer.proofs.Pieces.{copied_next}
+use Rattle.answer.proofs.Outputs.{placed_over}
+use Rattle.answer.proofs.Pieces.{placed_next}
 use Rattle.answer.proofs.Equality.{both_true}
 use Rattle.answer.proofs.Refusals.{Numbered}
 use Rattle.answer.proofs.Rows.{AllFalse, either_false, isnt_false}
@@ -80,25 +80,22 @@ module _ (scheme number turned listed : ℕ) (id credentials nodes : List ℕ) (
       let d : take 128 (drop 42 (id ++ credentials ++ nodes)) ≡ nodes = ap (take 128) (drop_at (id ++ credentials) nodes 42 m) ∙ take_all 128 nodes (omega arith) in
       rw (two_bytes number hn, two_bytes turned ht, two_bytes listed hl, a, c, d)
 
-  -- a string of zeros, over which the parts were copied one behind the other
-  module _ (b1 b2 b3 l2 l3 l4 : List ℕ) where
-    head : List ℕ
-    head = 1 ∷ scheme ∷ number % 256 ∷ number / 256 % 256 ∷ turned % 256 ∷ turned / 256 % 256 ∷ listed % 256 ∷ listed / 256 % 256 ∷ []
-
-    pub parts_copied : b1 ≡ take 178 (1 ∷ scheme ∷ number % 256 ∷ number / 256 % 256 ∷ turned % 256 ∷ turned / 256 % 256 ∷ listed % 256 ∷ listed / 256 % 256 ∷ []) ++ drop 8 (replicate 178 0)
-        → b2 ≡ take 8 b1 ++ (l2 ++ drop 6 (drop 8 b1)) → l2 ≡ take (length (take 6 (drop 8 b1))) id ++ drop (length id) (take 6 (drop 8 b1))
-        → b3 ≡ take 14 b2 ++ (l3 ++ drop 36 (drop 14 b2)) → l3 ≡ take (length (take 36 (drop 14 b2))) credentials ++ drop (length credentials) (take 36 (drop 14 b2))
-        → l4 ≡ take (length (take 128 (drop 50 b3))) nodes ++ drop (length nodes) (take 128 (drop 50 b3))
-        → take 50 b3 ++ (l4 ++ drop 128 (drop 50 b3)) ≡ encode (context_of scheme number turned listed id credentials nodes)
-    unfolding encode context_of head over
-    parts_copied e1 e2 h2 e3 h3 h4 =
+  -- a string of zeros, in which the parts were put one behind the other
+  module _ (l1 b1 l2 b2 l3 b3 l4 : List ℕ) where
+    pub parts_placed : l1 ≡ 1 ∷ scheme ∷ number_bytes number ++ number_bytes turned ++ number_bytes listed → b1 ≡ l1 ++ drop 8 (replicate 178 0)
+        → l2 ≡ id → b2 ≡ take 8 b1 ++ (l2 ++ drop 6 (drop 8 b1))
+        → l3 ≡ credentials → b3 ≡ take 14 b2 ++ (l3 ++ drop 36 (drop 14 b2))
+        → l4 ≡ nodes → take 50 b3 ++ (l4 ++ drop 128 (drop 50 b3)) ≡ encode (context_of scheme number turned listed id credentials nodes)
+    unfolding encode context_of over
+    parts_placed h1 e1 h2 e2 h3 e3 h4 =
         let zeros : List ℕ = replicate 178 0 in
-        let w1 : b1 ≡ over head zeros = copied_over head zeros b1 (lit≤ tt) e1 in
-        let w2 : b2 ≡ over (head ++ id) zeros = e2 ∙ copied_next head zeros b1 8 6 refl (lit≤ tt) w1 id l2 i h2 in
+        let head : List ℕ = 1 ∷ scheme ∷ number_bytes number ++ number_bytes turned ++ number_bytes listed in
+        let w1 : b1 ≡ over head zeros = e1 ∙ placed_over head zeros l1 8 refl h1 in
+        let w2 : b2 ≡ over (head ++ id) zeros = e2 ∙ placed_next head zeros b1 8 6 refl (lit≤ tt) w1 id l2 i h2 in
         let n2 : length (head ++ id) ≡ 14 = length-append head id ∙ omega arith in
-        let w3 : b3 ≡ over (head ++ id ++ credentials) zeros = e3 ∙ copied_next (head ++ id) zeros b2 14 36 n2 (lit≤ tt) w2 credentials l3 k h3 in
+        let w3 : b3 ≡ over (head ++ id ++ credentials) zeros = e3 ∙ placed_next (head ++ id) zeros b2 14 36 n2 (lit≤ tt) w2 credentials l3 k h3 in
         let n3 : length (head ++ id ++ credentials) ≡ 50 = length-append (head ++ id) credentials ∙ omega (arith, n2) in
-        let w4 : take 50 b3 ++ (l4 ++ drop 128 (drop 50 b3)) ≡ over (head ++ id ++ credentials ++ nodes) zeros = copied_next (head ++ id ++ credentials) zeros b3 50 128 n3 (lit≤ tt) w3 nodes l4 l h4 in
+        let w4 : take 50 b3 ++ (l4 ++ drop 128 (drop 50 b3)) ≡ over (head ++ id ++ credentials ++ nodes) zeros = placed_next (head ++ id ++ credentials) zeros b3 50 128 n3 (lit≤ tt) w3 nodes l4 l h4 in
         let n4 : length (head ++ id ++ credentials ++ nodes) ≡ 178 = length-append (head ++ id ++ credentials) nodes ∙ omega (arith, n3) in
         w4 ∙ ap (λ (j : ℕ). head ++ id ++ credentials ++ nodes ++ drop j zeros) n4 ∙ append-nil (head ++ id ++ credentials ++ nodes)
 

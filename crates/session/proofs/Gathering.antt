@@ -4,21 +4,27 @@ use mathlib.Core.Bool.{Bool, true, false}
 use mathlib.Core.List.{List, [], ◌∷◌, ◌++◌, append_assoc, append-nil}
 use Prim.Native.Nat.{ℕ, zero, suc, ◌+◌, ◌-◌, ◌*◌, ◌/◌, ◌≤◌, ◌<◌}
 use native.Mathlib.Nat.{suc-mul}
-use native.Mathlib.Numerals.{add-one}
 use native.Mathlib.Omega.{arith}
-use borrow.Author.Tests.{eq-eqb, ne_eqb, ltb-true}
+use borrow.Author.Tests.{ne_eqb, ltb-true}
+use borrow.Rule.Slice.PartMut.{put_mid}
 use lib.Dec.{lit≤, eqb}
-use lib.ListN.{length, take, drop, get_or, length-append, length-drop}
-use lib.Seq.{drop-drop, take-take, take_at, take-suc, take_all, length-take-le}
+use lib.ListN.{length, take, drop, length-append, take-append-drop}
+use lib.Seq.{drop-drop, drop-cons, take-take, take_at, length-take-le}
+use Rattle.std.proofs.Common.{Option, Some, None}
+use Rattle.std.proofs.lemmas.Iterator.{YieldsList}
+use Rattle.std.proofs.lemmas.Iterator.Consumers.{YieldsList-so_far, YieldsList-turn, YieldsList-end}
+use Rattle.std.proofs.lemmas.List.{map-id}
+use Rattle.std.specs.Iterator.{Yields}
+use Rattle.answer.specs.declared.refusal.Refusal.{Refusal}
 use Rattle.cipher.specs.Bytes.{Bytes}
 use Rattle.cipher.proofs.ByteLists.{Bytes-nil, Bytes-append, Bytes-take, Bytes-drop}
-use Rattle.cipher.proofs.Copies.{length_part, part_of, stored}
+use Rattle.cipher.proofs.Copies.{length_part, stored}
 use Rattle.answer.specs.Outcome.{choose}
 use Rattle.answer.proofs.Rows.{choose_most}
 use Rattle.session.specs.Entries.{Entry, entry_of, first_entries, entries, place, has, key_at}
 use Rattle.session.specs.Derivation.{other, key_length, Derived, turned_down, needing, lacks, key_of, keys_of}
-use Rattle.session.specs.inner.DerivationSteps.{missing, Holds}
-use Rattle.session.specs.declared.keys.Gathered.{Gathered}
+use Rattle.answer.specs.declared.refusal.Refusal.TheVariants.{OtherAlgorithm, KeyMissing}
+use Rattle.session.specs.inner.DerivationSteps.{refusing}
 use Rattle.session.proofs.KeySearch.{length_entries}
 
 -- ---- the key of a node
@@ -56,15 +62,51 @@ module _ (keys : List ℕ) (a n : ℕ) where
   pub has_long : has (entries keys) n a ≡ true → length (key_of (entries keys) a n) ≡ key_length a
   has_long t = key_long (place (entries keys) n a) refl (placed t)
 
+-- the key at the place has all 16 bytes
+pub key_at_long : (keys : List ℕ) (a n : ℕ) → has (entries keys) n a ≡ true → length (key_at (entries keys) (place (entries keys) n a)) ≡ 16
+unfolding entries
+key_at_long keys a n t =
+    let h : place (entries keys) n a < length keys / 19 = placed keys a n t in
+    ap length (key_at_lem (length keys / 19) keys (place (entries keys) n a) h) ∙ length_part keys (place (entries keys) n a * 19 + 3) 16 (omega arith)
+
 pub Bytes-key : (keys : List ℕ) (a n : ℕ) → has (entries keys) n a ≡ true → Bytes keys → Bytes (key_of (entries keys) a n)
 Bytes-key keys a n t b =
     rw (key_is keys a n (place (entries keys) n a) refl (placed keys a n t)) (Bytes-take (key_length a) (drop (place (entries keys) n a * 19 + 3) keys) (Bytes-drop (place (entries keys) n a * 19 + 3) keys b))
 
--- what was asked of the other algorithm
-pub lacking_has : (es : List Entry) (n b : ℕ) (t : Bool) (a : ℕ) → b ≡ other a → t ≡ has es n b → has es n (other a) ≡ t
-lacking_has es n b t a e h = sym (h ∙ ap (has es n) e)
+-- m is the mark of the algorithm a, k the length of its keys; key is what the search found
+module _ (keys : List ℕ) (a n m k : ℕ) (em : m ≡ a) (ek : k ≡ key_length a) (key : List ℕ)
+    (found : (has (entries keys) n m ≡ true) × (key ≡ key_at (entries keys) (place (entries keys) n m))) where
+  pub needed_within : k ≤ length key
+  needed_within = let l : length key ≡ 16 = ap length found.1 ∙ key_at_long keys m n found.0 in omega (arith, length_most a)
+
+  pub needed_found : (has (entries keys) n a ≡ true) × (take k key ≡ key_of (entries keys) a n) × (length (take k key) ≡ key_length a)
+  unfolding key_of
+  needed_found =
+      let t : has (entries keys) n a ≡ true = ap (has (entries keys) n) (sym em) ∙ found.0 in
+      let e : take k key ≡ take (key_length a) (key_at (entries keys) (place (entries keys) n a)) = rw (ek, found.1, em) in
+      (t, e, ap length e ∙ has_long keys a n t)
+
+-- t is what was asked of the other algorithm b
+module _ (es : List Entry) (n a m b : ℕ) (em : m ≡ a) (eb : b ≡ other a) (none : has es n m ≡ false) (t : Bool) (et : t ≡ has es n b) where
+  lacking_has : has es n (other a) ≡ t
+  lacking_has = sym (et ∙ ap (has es n) eb)
+
+  lacking_none : has es n a ≡ false
+  lacking_none = ap (has es n) (sym em) ∙ none
+
+  pub lacks_other : t ≡ true → (has es n a ≡ false) × (lacks es n a ≡ refusing OtherAlgorithm)
+  unfolding lacks choose refusing
+  lacks_other h = (lacking_none, rw (lacking_has, h))
+
+  pub lacks_key : t ≡ false → (has es n a ≡ false) × (lacks es n a ≡ refusing (KeyMissing n))
+  unfolding lacks choose refusing
+  lacks_key h = (lacking_none, rw (lacking_has, h))
 
 -- ---- the first node that lacks its key
+
+-- the refusal of the first of the nodes that lacks its key, else 0
+unfoldable pub missing : List Entry → ℕ → List ℕ → Derived
+missing es algorithm ns = needing es algorithm ns (turned_down 0 0)
 
 module _ (es : List Entry) (a : ℕ) where
   pub needing_append : (ns ms : List ℕ) (d : Derived) → needing es a (ns ++ ms) d ≡ needing es a ns (needing es a ms d)
@@ -122,10 +164,6 @@ module _ (es : List Entry) (a : ℕ) where
   unfolding keys_of
   keys_of_one n = append-nil (key_of es a n)
 
-  missing_one : (n : ℕ) → missing es a (n ∷ []) ≡ choose (has es n a) (turned_down 0 0) (lacks es n a)
-  unfolding missing needing
-  missing_one n = refl
-
   pub lacks_number : (n : ℕ) → (lacks es n a).number ≡ 0 → ⊥
   unfolding lacks choose turned_down
   lacks_number n h = go (has es n (other a)) h
@@ -143,107 +181,69 @@ module _ (es : List Entry) (a : ℕ) where
   pub missing_first : (ns ms : List ℕ) → (missing es a (ns ++ ms)).number ≡ 0 → (missing es a ns).number ≡ 0
   missing_first ns ms h = first_at (missing es a ns).number (missing es a ms) (missing es a ns) refl (rw (missing_append ns ms) at h)
 
-  -- and nothing in the rest
-  pub missing_rest : (ns ms : List ℕ) → (missing es a (ns ++ ms)).number ≡ 0 → (missing es a ms).number ≡ 0
-  unfolding choose
-  missing_rest ns ms h = let z : (missing es a ns).number ≡ 0 = missing_first ns ms h in rw (eq-eqb _ _ z) at (rw (missing_append ns ms) at h)
+-- nothing is missing
+pub missing_none : (es : List Entry) (a : ℕ) (ns : List ℕ) → ((d : Derived) → needing es a ns d ≡ d) → (missing es a ns).number ≡ 0
+unfolding missing turned_down
+missing_none es a ns h = ap (λ (d : Derived). d.number) (h (turned_down 0 0))
 
 -- ---- keys gathered
 
+-- the keys of the nodes ns are there, and stand one behind the other in the first size bytes of w
+pub record Gathered (es : List Entry) (a : ℕ) (ns : List ℕ) (size : ℕ) (w : List ℕ) : Type 0 where
+  pub goes : (d : Derived) → needing es a ns d ≡ d
+  pub within : size ≤ length w
+  pub bytes : take size w ≡ keys_of es a ns
+
 module _ (es : List Entry) (a : ℕ) where
-  pub holds_start : (g : Gathered) (w : List ℕ) → g.number ≡ 0 → g.node ≡ 0 → g.size ≡ 0 → Holds es a [] g w
-  unfolding missing needing turned_down keys_of
-  holds_start g w p q r = record { number = p; node = q; within = omega arith; bytes = λ _. rw r }
+  pub gathered_none : (w : List ℕ) → Gathered es a [] 0 w
+  unfolding needing keys_of
+  gathered_none w = record { goes = λ d. refl; within = omega arith; bytes = refl }
 
-  module _ (ns : List ℕ) (g : Gathered) (w : List ℕ) (s : Holds es a ns g w) where
-    -- a refusal stays
-    pub holds_stuck : (ms : List ℕ) → (g.number ≡ 0 → ⊥) → Holds es a (ns ++ ms) g w
-    unfolding choose
-    holds_stuck ms h =
-        let f : ((missing es a ns).number ≡ 0 → ⊥) = λ z. h (s.number ∙ z) in
-        let e : missing es a (ns ++ ms) ≡ missing es a ns = missing_append es a ns ms ∙ rw (ne_eqb _ _ f) in
-        record { number = s.number ∙ ap (λ (d : Derived). d.number) (sym e); node = s.node ∙ ap (λ (d : Derived). d.node) (sym e); within = s.within; bytes = λ z. absurd (h z) }
-
-    module _ (z : g.number ≡ 0) where
-      missing_next : (n : ℕ) → missing es a (ns ++ (n ∷ [])) ≡ choose (has es n a) (turned_down 0 0) (lacks es n a)
-      unfolding choose
-      missing_next n =
-          let f : (missing es a ns).number ≡ 0 = sym s.number ∙ z in
-          missing_append es a ns (n ∷ []) ∙ rw (eq-eqb _ _ f) (missing_one es a n)
-
-      -- the next node lacks its key
-      pub holds_lacks : (n : ℕ) (r : Gathered) → has es n a ≡ false → r.number ≡ (lacks es n a).number → r.node ≡ (lacks es n a).node → r.size ≡ 0 → Holds es a (ns ++ (n ∷ [])) r w
-      unfolding choose
-      holds_lacks n r t p q l =
-          let e : missing es a (ns ++ (n ∷ [])) ≡ lacks es n a = missing_next n ∙ rw t in
-          record {
-            number = p ∙ ap (λ (d : Derived). d.number) (sym e);
-            node = q ∙ ap (λ (d : Derived). d.node) (sym e);
-            within = omega arith;
-            bytes = λ y. absurd (lacks_number es a n (sym p ∙ y));
-          }
-
-      -- its key was put behind the others
-      pub holds_put : (n : ℕ) (r : Gathered) (b w' : List ℕ) (k : ℕ) → has es n a ≡ true → r.number ≡ 0 → r.node ≡ 0 → r.size ≡ g.size + k → g.size + k ≤ length w
-          → b ≡ key_of es a n → length b ≡ k → w' ≡ take g.size w ++ b ++ drop (g.size + k) w → Holds es a (ns ++ (n ∷ [])) r w'
-      unfolding choose turned_down
-      holds_put n r b w' k t p q l room key long put =
-          let e : missing es a (ns ++ (n ∷ [])) ≡ turned_down 0 0 = missing_next n ∙ rw t in
-          let i = s.within in
-          let f : length (take g.size w ++ b) ≡ g.size + k = length-append (take g.size w) b ∙ ap₂ (λ (x y : ℕ). x + y) (length-take-le g.size w i) long in
-          let m : length w' ≡ length w =
-          ap length put ∙ length-append (take g.size w ++ b) (drop (g.size + k) w) ∙ ap₂ (λ (x y : ℕ). x + y) f (length-drop (g.size + k) w) ∙ omega arith in
-          let c : take (g.size + k) w' ≡ take g.size w ++ b = ap (take (g.size + k)) put ∙ take_at (take g.size w ++ b) (drop (g.size + k) w) (g.size + k) f in
-          record {
-            number = p ∙ ap (λ (d : Derived). d.number) (sym e);
-            node = q ∙ ap (λ (d : Derived). d.node) (sym e);
-            within = omega arith;
-            bytes = λ _. rw l (c ∙ ap₂ (λ (x y : List ℕ). x ++ y) (s.bytes z) (key ∙ sym (keys_of_one es a n)) ∙ sym (keys_of_append es a ns (n ∷ [])));
-          }
-
--- the key at place p was copied behind the others; v is its length
-module _ (keys : List ℕ) (a n p v : ℕ) (ev : v ≡ key_length a) (e : p ≡ place (entries keys) n a) (h : p < length keys / 19) (t : has (entries keys) n a ≡ true)
-    (ns : List ℕ) (g : Gathered) (w : List ℕ) (s : Holds (entries keys) a ns g w) (z : g.number ≡ 0) (room : g.size + 16 ≤ length w) (r : Gathered) where
-  pub holds_stored : (last : List ℕ) → r.number ≡ 0 → r.node ≡ 0 → r.size ≡ g.size + v
-      → last ≡ take (length (take (g.size + v - g.size) (drop g.size w))) (take (p * 19 + 3 + v - (p * 19 + 3)) (drop (p * 19 + 3) keys))
-      ++ drop (length (take (p * 19 + 3 + v - (p * 19 + 3)) (drop (p * 19 + 3) keys))) (take (g.size + v - g.size) (drop g.size w))
-      → Holds (entries keys) a (ns ++ (n ∷ [])) r (take g.size w ++ (last ++ drop (g.size + v - g.size) (drop g.size w)))
-  holds_stored last i j l q =
-      let b : List ℕ = take (p * 19 + 3 + v - (p * 19 + 3)) (drop (p * 19 + 3) keys) in
-      let m : g.size + v ≤ length w = omega (arith, length_most a) in
-      let k : b ≡ key_of (entries keys) a n = part_of keys (p * 19 + 3) v ∙ ap (λ (x : ℕ). take x (drop (p * 19 + 3) keys)) ev ∙ sym (key_is keys a n p e h) in
-      let d : length b ≡ v = ap length k ∙ key_long keys a n p e h ∙ sym ev in
-      holds_put (entries keys) a ns g w s z n r b _ v t i j l m k d (stored w g.size v m b last q d)
-
--- the keys of the first i nodes of a list were put behind those of g₀
-module _ (es : List Entry) (a : ℕ) (list : List ℕ) (g₀ : Gathered) (w₀ : List ℕ) where
-  pub record Gathering (w : List ℕ) (g : Gathered) (i : ℕ) : Type 0 where
-    pub within : i ≤ length list
-    pub long : length w ≡ length w₀
-    pub small : g.size ≤ g₀.size + i * 16
-    pub holds : (ns : List ℕ) → Holds es a ns g₀ w₀ → Holds es a (ns ++ take i list) g w
-
-  pub gathering_start : Gathering w₀ g₀ 0
-  gathering_start = record { within = omega arith; long = refl; small = omega arith; holds = λ ns s. rw append-nil s }
-
-  module _ (w : List ℕ) (g : Gathered) (i : ℕ) (s : Gathering w g i) where
-    pub gathering_step : i < length list → (r : Gathered) (w' : List ℕ) → length w' ≡ length w → (r.size ≤ g.size + 16) × ((ns : List ℕ) → Holds es a ns g w → Holds es a (ns ++ (get_or list i 0 ∷ [])) r w')
-        → Gathering w' r (i + 1)
-    gathering_step h r w' l f =
-        let m = s.small in
-        let n = f.0 in
+  module _ (ns : List ℕ) (size : ℕ) (w : List ℕ) (s : Gathered es a ns size w) (n : ℕ) where
+    -- the next key was put behind them
+    pub gathered_more : (key w' : List ℕ) → has es n a ≡ true → key ≡ key_of es a n → size + length key ≤ length w → w' ≡ take size w ++ key ++ drop (size + length key) w
+        → Gathered es a (ns ++ (n ∷ [])) (size + length key) w'
+    unfolding needing choose
+    gathered_more key w' t e room put =
+        let f : length (take size w ++ key) ≡ size + length key = length-append (take size w) key ∙ ap (λ (x : ℕ). x + length key) (length-take-le size w s.within) in
+        let g : take (size + length key) w' ≡ take size w ++ key = ap (take (size + length key)) put ∙ take_at (take size w ++ key) (drop (size + length key) w) (size + length key) f in
         record {
-          within = omega arith;
-          long = l ∙ s.long;
-          small = omega arith;
-          holds = λ ns t. rw (add-one i, take-suc list i 0 h, ← append_assoc ns (take i list) (get_or list i 0 ∷ [])) (f.1 (ns ++ take i list) (s.holds ns t));
+          goes = λ d. needing_append es a ns (n ∷ []) d ∙ s.goes _ ∙ rw t;
+          within = omega (arith, f, ap length put, length-append (take size w ++ key) (drop (size + length key) w));
+          bytes = g ∙ ap₂ ◌++◌ s.bytes (e ∙ sym (keys_of_one es a n)) ∙ sym (keys_of_append es a ns (n ∷ []));
         }
 
-    pub gathering_done : length list ≤ i → (g.size ≤ g₀.size + length list * 16) × ((ns : List ℕ) → Holds es a ns g₀ w₀ → Holds es a (ns ++ list) g w)
-    gathering_done h =
-        let m = s.small in
-        let n = s.within in
-        (omega arith, λ ns t. rw (take_all i list h) at (s.holds ns t))
+    -- by a copy
+    pub gathered_copied : (key last : List ℕ) → has es n a ≡ true → key ≡ key_of es a n → size + length key ≤ length w
+        → last ≡ take (length (take (size + length key - size) (drop size w))) key ++ drop (length key) (take (size + length key - size) (drop size w))
+        → Gathered es a (ns ++ (n ∷ [])) (size + length key) (put_mid size (size + length key - size) w last)
+    gathered_copied key last t e room q = gathered_more key _ t e room (stored w size (length key) room key last q refl)
+
+    -- the next node lacks its key
+    pub gathered_lacks : (ms : List ℕ) (o : Derived) → has es n a ≡ false → lacks es n a ≡ o → (d : Derived) → needing es a (ns ++ (n ∷ ms)) d ≡ o
+    unfolding needing choose
+    gathered_lacks ms o t e d = needing_append es a ns (n ∷ ms) d ∙ s.goes _ ∙ rw t e
+
+-- the loop over a chain that gives the nodes all; it has given ns so far
+module _ {S : Type 0} {steps : S → Option ℕ → S → Type 0} {s : S} {all : List ℕ} (road : YieldsList steps (λ x. x) s all) (ns : List ℕ) (t : S) (so_far : Yields steps s ns t)
+    (r : Option ℕ) (u : S) (next : steps t r u) (es : List Entry) (a size : ℕ) (w : List ℕ) (g : Gathered es a ns size w) where
+  now_is : ns ≡ take (length ns) all
+  now_is = sym (map-id ns) ∙ YieldsList-so_far road ns t so_far
+
+  -- and gives no more
+  pub gather_done : r ≡ None → ((d : Derived) → needing es a all d ≡ d) × (take size w ≡ keys_of es a all)
+  gather_done e =
+      let h : ns ≡ all = sym (map-id ns) ∙ (YieldsList-end road ns t so_far r u e next).0 in
+      rw (← h) (g.goes, g.bytes)
+
+  -- and gives a node that lacks its key
+  pub gather_lacks : (n : ℕ) (o : Refusal) → r ≡ Some n → (has es n a ≡ false) × (lacks es n a ≡ refusing o) → (d : Derived) → needing es a all d ≡ refusing o
+  gather_lacks n o e h =
+      let v = YieldsList-turn road ns t so_far r u n e next in
+      let i : length ns < length all = v.0 in
+      let q : all ≡ ns ++ (n ∷ drop (suc (length ns)) all) =
+      sym (take-append-drop (length ns) all) ∙ ap₂ ◌++◌ (sym now_is) (drop-cons all (length ns) n i ∙ ap (λ (x : ℕ). x ∷ drop (suc (length ns)) all) (sym v.1)) in
+      λ d. ap (λ (l : List ℕ). needing es a l d) q ∙ gathered_lacks es a ns size w g n (drop (suc (length ns)) all) (refusing o) h.0 h.1 d
 
 -- the keys of all nodes, each as long as its algorithm wants
 module _ (keys : List ℕ) (a : ℕ) where

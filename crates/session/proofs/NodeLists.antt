@@ -1,18 +1,33 @@
 -- The nodes of a list, and those of them that bear a key. Assumes nothing.
 use mathlib.Core.Path.{◌≡◌, refl, sym, ap, ap₂, ◌∙◌}
-use mathlib.Core.Bool.{Bool, true, false}
-use mathlib.Core.List.{List, [], ◌∷◌, ◌++◌, append_assoc, append-nil}
-use Prim.Native.Nat.{ℕ, zero, suc, ◌+◌, ◌-◌, ◌*◌, ◌/◌, ◌≤◌, ◌<◌}
-use native.Mathlib.Nat.{sub-zero}
-use native.Mathlib.Numerals.{add-one}
+use mathlib.Core.Bool.{Bool, true, false, ◌&&◌, not}
+use mathlib.Core.List.{List, [], ◌∷◌, ◌++◌}
+use Prim.Native.Nat.{ℕ, zero, suc, ◌+◌, ◌/◌, ◌<◌}
 use native.Mathlib.Omega.{arith}
-use lib.ListN.{length, take, drop, get_or, set, length-set}
-use lib.Seq.{drop-drop, drop-cons, drop-length, length-take-le, take-suc-set, take-set-le}
+use lib.ListN.{length, take, drop, get_or, get_or-append, length-append, take-append-drop}
+use lib.Seq.{drop_at, length-take-le}
+use Rattle.std.proofs.Common.{Option, Some, None, MatchOption, cond, ◌≢◌, map}
+use Rattle.std.proofs.lemmas.Iterator.{YieldsList, items_from_drains}
+use Rattle.std.proofs.lemmas.List.{map-id}
+use Rattle.std.proofs.lemmas.Iterator.Consumers.{YieldsList-from_first, YieldsList-from_filter, YieldsList-from_chain, YieldsList-at}
+use Rattle.std.specs.Fn.{CalledAt}
+use Rattle.std.specs.Iterator.Adapters.{filter_source, filter_callee, filter_steps, chain_first, chain_second, chain_first_done, chain_second_done, chain_steps}
+use denote.Param.Members.{Mut}
+use denote.Ref.{Bor}
+use Rattle.std.specs.Iterator.{Drains, YieldsFirst}
+use Rattle.std.specs.List.{filter, last_or, list_all}
+use Rattle.std.specs.Option.{option_or}
+use Rattle.std.specs.Ordering.{is_le, is_lt, nat_cmp}
+use Rattle.std.proofs.lemmas.Bool.Decides.{nat_tests}
+use borrow.Author.Tests.{eqb-true, eq-eqb, ne_eqb}
+use lib.Dec.{eqb, ltb}
 use Rattle.answer.specs.Number.{number_of}
 use Rattle.answer.specs.Outcome.{choose}
 use Rattle.answer.specs.Tests.{both}
 use Rattle.session.specs.Entries.{first_nodes, nodes}
 use Rattle.session.specs.Derivation.{last, target}
+use Rattle.session.specs.inner.DerivationSteps.{Lists}
+use Rattle.session.specs.declared.types.Nodes.{Nodes}
 use Rattle.session.specs.ServiceCode.{key_free, bearing}
 
 pub length_first_nodes : (n : ℕ) (l : List ℕ) → length (first_nodes n l) ≡ n
@@ -24,134 +39,113 @@ pub length_nodes : (l : List ℕ) → length (nodes l) ≡ length l / 2
 unfolding nodes
 length_nodes l = length_first_nodes (length l / 2) l
 
--- ---- a list is parsed: the first i nodes stand in out
+-- one node, and those behind it
+pub nodes_cons : (x r : List ℕ) → length x ≡ 2 → nodes (x ++ r) ≡ number_of x ∷ nodes r
+unfolding nodes first_nodes
+nodes_cons x r h =
+    let e : length (x ++ r) / 2 ≡ suc (length r / 2) = omega (arith, length-append x r) in
+    let a : get_or (x ++ r) 0 0 ≡ get_or x 0 0 = get_or-append x r 0 0 (omega arith) in
+    let b : get_or (x ++ r) 1 0 ≡ get_or x 1 0 = get_or-append x r 0 1 (omega arith) in
+    rw (e, a, b, drop_at x r 2 h)
 
-module _ (l out₀ : List ℕ) where
-  pub record Parsed (out : List ℕ) (i : ℕ) : Type 0 where
-    pub within : i ≤ length l / 2
-    pub long : length out ≡ length out₀
-    pub goal : take i out ++ first_nodes (length l / 2 - i) (drop (i * 2) l) ≡ nodes l
+pub nodes_short : (l : List ℕ) → length l < 2 → nodes l ≡ []
+unfolding nodes first_nodes
+nodes_short l h = let e : length l / 2 ≡ 0 = omega arith in rw e
 
-  pub parsed_start : Parsed out₀ 0
-  unfolding nodes
-  parsed_start = record { within = omega arith; long = refl; goal = rw sub-zero }
+-- the first node of l, cut off
+pub nodes_step : (l x r : List ℕ) → x ≡ take 2 l → r ≡ drop 2 l → length r + 2 ≡ length l → nodes l ≡ number_of x ∷ nodes r
+nodes_step l x r e f h =
+    let k : length x ≡ 2 = ap length e ∙ length-take-le 2 l (omega arith) in
+    ap nodes (sym (take-append-drop 2 l) ∙ sym (ap₂ ◌++◌ e f)) ∙ nodes_cons x r k
 
-  module _ (out : List ℕ) (i : ℕ) (s : Parsed out i) where
-    pub parsed_step : i < length l / 2 → length l / 2 ≤ length out₀ → (node : ℕ) → node ≡ number_of (drop (i * 2) l) → Parsed (set out i node) (i + 1)
-    unfolding first_nodes
-    parsed_step h r node n =
-        let e : length l / 2 - i ≡ suc (length l / 2 - (i + 1)) = omega arith in
-        let f : i * 2 + 2 ≡ (i + 1) * 2 = omega arith in
-        let k : i < length out = let q = s.long in omega arith in
-        let g : take i out ++ (number_of (drop (i * 2) l) ∷ first_nodes (length l / 2 - (i + 1)) (drop 2 (drop (i * 2) l))) ≡ nodes l = rw e at s.goal in
-        record {
-          within = omega arith;
-          long = length-set out i node ∙ s.long;
-          goal = rw (add-one i, take-suc-set out i node k, append_assoc, n, ← add-one i, ← f, ← drop-drop 2 (i * 2) l) g;
-        }
+-- `Nodes` gives the nodes
+pub YieldsList-from_nodes : {s : Nodes} (l : List ℕ) → s.rest.now ≡ l → YieldsList (YieldsFirst (λ t. nodes t.rest.now)) (λ x. x) s (nodes l)
+YieldsList-from_nodes l e = YieldsList-from_first (λ x. x) (λ t. nodes t.rest.now) (nodes l) (ap nodes e)
 
-    pub parsed_done : length l / 2 ≤ i → take (length l / 2) out ≡ nodes l
-    unfolding first_nodes
-    parsed_done h =
-        let w = s.within in
-        let e : length l / 2 - i ≡ 0 = omega arith in
-        let f : length l / 2 ≡ i = omega arith in
-        rw f (sym (append-nil (take i out)) ∙ (rw e at s.goal))
+-- ---- the services that bear a key
 
-pub one_free : (service : ℕ) → key_free service ≡ true → length (bearing (service ∷ [])) ≡ 0
+pub bearing_filter : (l : List ℕ) → filter (λ s. not (key_free s)) l ≡ bearing l
 unfolding bearing choose
-one_free service e = rw e
+bearing_filter [] = refl
+bearing_filter (s ∷ l) = go (key_free s) (bearing_filter l)
+  where
+    go : (t : Bool) → filter (λ x. not (key_free x)) l ≡ bearing l → cond (not t) (s ∷ filter (λ x. not (key_free x)) l) (filter (λ x. not (key_free x)) l) ≡ choose t (bearing l) (s ∷ bearing l)
+    go true h = h
+    go false h = ap (λ (x : List ℕ). s ∷ x) h
 
-pub one_bearing : (service : ℕ) → key_free service ≡ false → length (bearing (service ∷ [])) ≡ 1
+-- ---- what the iterators list
+
+pub Lists-nodes : {s : Nodes} (l : List ℕ) → s.rest.now ≡ l → Lists (YieldsFirst (λ t. nodes t.rest.now)) s (nodes l)
+Lists-nodes l e = record { runs = (YieldsList-from_nodes l e).runs }
+
+-- the nodes of two lists, one behind the other
+pub Lists-chain : {s : _} (l m : List ℕ) {t u : Nodes} → chain_first s ≡ t → chain_second s ≡ u → t.rest.now ≡ l → u.rest.now ≡ m → chain_first_done s ≡ false → chain_second_done s ≡ false
+    → Lists (chain_steps (YieldsFirst (λ v. nodes v.rest.now)) (YieldsFirst (λ v. nodes v.rest.now))) s (nodes l ++ nodes m)
+Lists-chain l m e f p q i j = record { runs = (YieldsList-from_chain (YieldsList-at e (YieldsList-from_nodes l p)) (YieldsList-at f (YieldsList-from_nodes m q)) i j).runs }
+
+-- those of the services that bear a key
+pub Lists-keyed : {F : Type 0} {s : _} (g : Mut F (Bor ℕ × Unit {0}) Bool) {f : F} (t : Nodes) (l : List ℕ) → filter_source s ≡ t → t.rest.now ≡ l → filter_callee s ≡ f
+    → ((x : ℕ) (b : Bool) (q : F) → CalledAt g f x b q → (q ≡ f) × (b ≡ not (key_free x))) → Lists (filter_steps (YieldsFirst (λ u. nodes u.rest.now)) g) s (bearing (nodes l))
+Lists-keyed g t l e n c h =
+    rw (← bearing_filter (nodes l)) (record { runs = (YieldsList-from_filter g (λ x. not (key_free x)) (YieldsList-at e (YieldsList-from_nodes l n)) c h).runs })
+
+-- t says whether all are key-free
+all_free : (l : List ℕ) → list_all key_free l ≡ eqb (length (bearing l)) 0
 unfolding bearing choose
-one_bearing service e = rw e
+all_free [] = refl
+all_free (s ∷ l) = go (key_free s) (all_free l)
+  where
+    go : (t : Bool) → list_all key_free l ≡ eqb (length (bearing l)) 0 → (t && list_all key_free l) ≡ eqb (length (choose t (bearing l) (s ∷ bearing l))) 0
+    go true h = h
+    go false h = sym (ne_eqb (suc (length (bearing l))) 0 (λ z. omega arith))
 
--- ---- the services that bear a key are kept: of the first i services they stand in out
+module _ (l : List ℕ) (t : Bool) (e : t ≡ list_all key_free l) where
+  pub none_bearing : t ≡ true → length (bearing l) ≡ 0
+  none_bearing h = eqb-true _ _ (sym (all_free l) ∙ sym e ∙ h)
 
-module _ (l out₀ : List ℕ) where
-  pub record Kept (out : List ℕ) (n i : ℕ) : Type 0 where
-    pub within : i ≤ length l
-    pub few : n ≤ i
-    pub long : length out ≡ length out₀
-    pub goal : take n out ++ bearing (drop i l) ≡ bearing l
-
-  pub kept_start : Kept out₀ 0 0
-  kept_start = record { within = omega arith; few = omega arith; long = refl; goal = refl }
-
-  module _ (out : List ℕ) (n i : ℕ) (s : Kept out n i) where
-    kept_here : i < length l → (b : Bool) → key_free (get_or l i 0) ≡ b → take n out ++ choose b (bearing (drop (suc i) l)) (get_or l i 0 ∷ bearing (drop (suc i) l)) ≡ bearing l
-    unfolding bearing
-    kept_here h b e = ap (λ (t : Bool). take n out ++ choose t (bearing (drop (suc i) l)) (get_or l i 0 ∷ bearing (drop (suc i) l))) (sym e) ∙ (rw (drop-cons l i 0 h) at s.goal)
-
-    module _ (h : i < length l) (r : length l ≤ length out₀) where
-      -- the service bears no key
-      kept_free : key_free (get_or l i 0) ≡ true → Kept (set out n (get_or l i 0)) (n + 0) (i + 1)
-      unfolding choose
-      kept_free e =
-          let z : n + 0 ≡ n = omega arith in
-          let w = s.few in
-          record {
-            within = omega arith;
-            few = omega arith;
-            long = length-set out n (get_or l i 0) ∙ s.long;
-            goal = rw (z, add-one i, take-set-le n out n (get_or l i 0) (omega arith)) (kept_here h true e);
-          }
-
-      -- it bears one
-      kept_bearing : key_free (get_or l i 0) ≡ false → Kept (set out n (get_or l i 0)) (n + 1) (i + 1)
-      unfolding choose
-      kept_bearing e =
-          let w = s.few in
-          let q = s.long in
-          let k : n < length out = omega arith in
-          record {
-            within = omega arith;
-            few = omega arith;
-            long = length-set out n (get_or l i 0) ∙ s.long;
-            goal = rw (add-one n, add-one i, take-suc-set out n (get_or l i 0) k, append_assoc) (kept_here h false e);
-          }
-
-      pub kept_step : (m : ℕ) → m ≡ length (bearing (get_or l i 0 ∷ [])) → Kept (set out n (get_or l i 0)) (n + m) (i + 1)
-      kept_step m e = go (key_free (get_or l i 0)) refl
-        where
-          go : (b : Bool) → key_free (get_or l i 0) ≡ b → Kept (set out n (get_or l i 0)) (n + m) (i + 1)
-          go true f = rw (e ∙ one_free (get_or l i 0) f) (kept_free f)
-          go false f = rw (e ∙ one_bearing (get_or l i 0) f) (kept_bearing f)
-
-    pub kept_done : length l ≤ i → take n out ≡ bearing l
-    unfolding bearing
-    kept_done h =
-        let w = s.within in
-        let f : i ≡ length l = omega arith in
-        sym (append-nil (take n out)) ∙ (rw (f, drop-length) at s.goal)
-
-    pub kept_count : length l ≤ i → length l ≤ length out₀ → n ≡ length (bearing l)
-    kept_count h r =
-        let q = s.long in
-        let w = s.few in
-        let v = s.within in
-        let k : n ≤ length out = omega arith in
-        sym (length-take-le n out k) ∙ ap length (kept_done h)
+  pub some_bearing : t ≡ false → length (bearing l) ≢ 0
+  some_bearing h = λ z. absurd (cc (eq-eqb (length (bearing l)) 0 z, all_free l))
 
 -- ---- the last node
 
-pub last_at : (d : ℕ) (l : List ℕ) (k : ℕ) → length l ≡ k + 1 → last d l ≡ get_or l k 0
+-- what `last` ensures of a chain that gives the list all
+pub last_from : {S : Type 0} {steps : S → Option ℕ → S → Type 0} {s : S} (r : Option ℕ) (all : List ℕ) → ((xs : List ℕ) × Drains steps s xs × (r ≡ last_or None xs)) → YieldsList steps (λ x. x) s all → r ≡ last_or None all
+last_from {S} {steps} {s} r all h y =
+    let e : map (λ x. x) h.0 ≡ all = items_from_drains {steps = steps} {s = s} h.0 (h.1.1.0, h.1.1.1, λ _. (h.1.0, h.1.1.2)) y in
+    h.2 ∙ ap (last_or None) (sym (map-id h.0) ∙ e)
+
+last_some : (x : ℕ) (l : List ℕ) → last_or (Some x) l ≡ Some (last x l)
 unfolding last
-last_at d [] k h = absurd (omega arith)
-last_at d (x ∷ []) k h = let z : k ≡ 0 = omega arith in rw z
-last_at d (x ∷ y ∷ l) zero h = absurd (omega arith)
-last_at d (x ∷ y ∷ l) (suc k) h = last_at x (y ∷ l) k (omega arith)
+last_some x [] = refl
+last_some x (y ∷ l) = last_some y l
 
-pub last_none : (d : ℕ) (l : List ℕ) → length l ≡ 0 → d ≡ last d l
-unfolding last
-last_none d [] h = refl
-last_none d (x ∷ l) h = absurd (omega arith)
+-- the target is the last that bears a key, else the last service, else the last area
+pub target_found : (areas services : List ℕ) (r : Option ℕ) → r ≡ option_or (option_or (last_or None (bearing services)) (last_or None services)) (last_or None areas)
+    → MatchOption r (length (areas ++ services) ≡ 0) (λ t. (length (areas ++ services) ≢ 0) × (t ≡ target areas services))
+unfolding target last bearing
+target_found [] [] r e = rw e refl
+target_found (a ∷ areas) [] r e = rw (e, last_some a areas) ((λ z. omega arith), refl)
+target_found areas (s ∷ services) r e = go (bearing (s ∷ services)) refl
+  where
+    n : length (areas ++ (s ∷ services)) ≢ 0
+    n z = omega (arith, length-append areas (s ∷ services))
 
-pub target_is : (areas services kept : List ℕ) (d s r : ℕ) → d ≡ last 0 areas → s ≡ last d services → kept ≡ bearing services → r ≡ last s kept → r ≡ target areas services
-unfolding target
-target_is areas services kept d s r p q k e = e ∙ ap₂ last (q ∙ ap (λ (x : ℕ). last x services) p) k
+    go : (ks : List ℕ) → bearing (s ∷ services) ≡ ks → MatchOption r (length (areas ++ (s ∷ services)) ≡ 0) (λ t. (length (areas ++ (s ∷ services)) ≢ 0) × (t ≡ target areas (s ∷ services)))
+    go [] k = rw (e, k, last_some s services) (n, refl)
+    go (x ∷ ks) k = rw (e, k, last_some x ks) (n, refl)
 
--- ---- key-free services, at the codes of document 01's table
+-- ---- key-free services
+
+both_and : (a b : Bool) → (a && b) ≡ both a b
+unfolding both
+both_and true b = refl
+both_and false b = refl
+
+-- the range of the attributes
+pub in_range : (x : ℕ) → (is_le (nat_cmp 9 x) && is_lt (nat_cmp x 24)) ≡ both (ltb 8 x) (ltb x 24)
+in_range x = rw (← both_and) (grind (arith, nat_tests))
+
+-- at some codes
 
 pub free_1009 : key_free 0x1009 ≡ true
 unfolding key_free both

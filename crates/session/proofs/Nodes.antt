@@ -1,61 +1,84 @@
--- The search for a node in a list of nodes. Assumes nothing.
-use mathlib.Core.Path.{◌≡◌, refl, sym, ap, ap₂, ◌∙◌}
-use mathlib.Core.Bool.{Bool, true, false}
+-- The search for a node in a session's list. Assumes nothing.
+use mathlib.Core.Path.{◌≡◌, refl, sym, ap, ◌∙◌}
+use mathlib.Core.Bool.{Bool, true, false, cond, not}
 use mathlib.Core.List.{List, [], ◌∷◌}
-use Prim.Native.Nat.{ℕ, zero, suc, ◌+◌, ◌-◌, ◌*◌, ◌/◌, ◌≤◌, ◌<◌}
-use native.Mathlib.Nat.{add-zero, zero-add, sub-zero}
+use mathlib.Core.Logic.{⊎_elim}
+use Prim.Native.Nat.{ℕ, zero, suc, ◌+◌, ◌*◌, ◌/◌, ◌≤◌, ◌<◌, min}
+use native.Mathlib.Nat.{min-eq_left, min-eq_right}
 use native.Mathlib.Omega.{arith}
-use borrow.Author.Tests.{eq-eqb, ne_eqb, lt-ltb, le-ltb}
-use lib.Dec.{eqb}
-use lib.ListN.{length, take, drop, get_or}
-use lib.Seq.{get_or-drop, drop-drop, length-take-le}
+use borrow.Author.Tests.{lt-ltb, le-ltb, ltb-false}
+use lib.Dec.{eqb, ltb}
+use lib.ListN.{length, take, drop}
+use lib.Seq.{length-take-le}
+use Rattle.std.specs.Prelude.{Option, Some, None}
+use Rattle.std.specs.Option.{unwrap_or}
+use Rattle.std.specs.List.{position_or_len, position}
+use Rattle.std.specs.Simd.{first_chunks}
+use Rattle.cipher.proofs.Numbers.{le_or_lt}
 use Rattle.answer.specs.Number.{number_of}
 use Rattle.answer.specs.Outcome.{choose}
+use Rattle.answer.proofs.Rows.{choose_most}
 use Rattle.session.proofs.NodeLists.{length_first_nodes}
 use Rattle.session.specs.Entries.{first_nodes, nodes}
-use Rattle.session.specs.Session.{first_place, index_in}
+use Rattle.session.specs.Session.{first_place, index_in, listed_count}
 
--- two bytes at a place
-pub number_at : (l : List ℕ) (at r : ℕ) → r ≡ get_or l at 0 + get_or l (at + 1) 0 * 256 → r ≡ number_of (drop at l)
-number_at l at r e =
-    e ∙ sym (ap₂ (λ (x y : ℕ). x + y * 256) (get_or-drop at l 0 0 ∙ ap (λ (k : ℕ). get_or l k 0) (add-zero at)) (get_or-drop at l 1 0))
+-- ---- the same search, over the pairs of bytes
 
--- ---- the loop: i nodes were looked at
+same_two : (l : List ℕ) → number_of l ≡ number_of (take 2 l)
+same_two [] = refl
+same_two (x ∷ []) = refl
+same_two (x ∷ y ∷ l) = refl
 
-module _ (l : List ℕ) (node : ℕ) where
-  pub first_start : 0 + first_place (first_nodes (length l / 2 - 0) (drop (0 * 2) l)) node ≡ first_place (nodes l) node
-  unfolding nodes
-  first_start = zero-add _ ∙ rw (sub-zero (length l / 2))
+by_test : (b : Bool) (p : ℕ) → choose b 0 (suc p) ≡ cond (not b) (1 + p) 0
+unfolding choose
+by_test true p = refl
+by_test false p = omega arith
 
-  module _ (i r : ℕ) (more : i < length l / 2) (read : r ≡ number_of (drop (i * 2) l)) where
-    one : first_place (first_nodes (length l / 2 - i) (drop (i * 2) l)) node ≡ choose (eqb r node) 0 (suc (first_place (first_nodes (length l / 2 - (i + 1)) (drop ((i + 1) * 2) l)) node))
-    unfolding first_nodes first_place
-    one =
-        let e : length l / 2 - i ≡ suc (length l / 2 - (i + 1)) = omega arith in
-        let k : i * 2 + 2 ≡ (i + 1) * 2 = omega arith in
-        let d : drop 2 (drop (i * 2) l) ≡ drop ((i + 1) * 2) l = drop-drop 2 (i * 2) l ∙ ap (λ (k : ℕ). drop k l) k in
-        rw (e, d, read)
+module _ (node : ℕ) where
+  abbrev test : List ℕ → Bool
+  test b = eqb (number_of b) node
 
-    pub first_here : r ≡ node → i + first_place (first_nodes (length l / 2 - i) (drop (i * 2) l)) node ≡ first_place (nodes l) node → i ≡ first_place (nodes l) node
-    unfolding choose
-    first_here e h =
-        let z : first_place (first_nodes (length l / 2 - i) (drop (i * 2) l)) node ≡ 0 = one ∙ rw (eq-eqb r node e) in
-        omega (arith, h, z)
-
-    pub first_next : (r ≡ node → ⊥) → i + first_place (first_nodes (length l / 2 - i) (drop (i * 2) l)) node ≡ first_place (nodes l) node
-        → i + 1 + first_place (first_nodes (length l / 2 - (i + 1)) (drop ((i + 1) * 2) l)) node ≡ first_place (nodes l) node
-    unfolding choose
-    first_next n h =
-        let z : first_place (first_nodes (length l / 2 - i) (drop (i * 2) l)) node ≡ suc (first_place (first_nodes (length l / 2 - (i + 1)) (drop ((i + 1) * 2) l)) node) = one ∙ rw (ne_eqb r node n) in
-        omega (arith, h, z)
-
-  pub first_none : (i : ℕ) → i ≤ length l / 2 → length l / 2 ≤ i → i + first_place (first_nodes (length l / 2 - i) (drop (i * 2) l)) node ≡ first_place (nodes l) node → length l / 2 ≡ first_place (nodes l) node
+  first_is : (n : ℕ) (l : List ℕ) → first_place (first_nodes n l) node ≡ position_or_len test (first_chunks 2 n l)
   unfolding first_nodes first_place
-  first_none i a b h =
-      let z : length l / 2 - i ≡ 0 = omega arith in
-      let e : i ≡ length l / 2 = omega arith in
-      let q : first_place (first_nodes (length l / 2 - i) (drop (i * 2) l)) node ≡ 0 = rw z in
-      omega (arith, h, q, e)
+  first_is zero l = refl
+  first_is (suc n) l =
+      ap (λ (k : ℕ). choose (eqb k node) 0 (suc (first_place (first_nodes n (drop 2 l)) node))) (same_two l)
+      ∙ ap (λ (k : ℕ). choose (eqb (number_of (take 2 l)) node) 0 (suc k)) (first_is n (drop 2 l))
+      ∙ by_test (eqb (number_of (take 2 l)) node) _
+
+  how_many : (n : ℕ) (l : List ℕ) → length (first_nodes n l) ≡ length (first_chunks 2 n l)
+  unfolding first_nodes
+  how_many zero l = refl
+  how_many (suc n) l = ap suc (how_many n (drop 2 l))
+
+  first_most : (ns : List ℕ) → first_place ns node ≤ length ns
+  unfolding first_place
+  first_most [] = omega arith
+  first_most (n ∷ ns) = let h = first_most ns in choose_most (eqb n node) 0 (suc (first_place ns node)) (suc (length ns)) (omega arith) (omega arith)
+
+  -- what the search answers, or how many pairs there are
+  or_all : (b : Bool) (p n : ℕ) → ltb p n ≡ b → p ≤ n → unwrap_or (cond b (Some p) None) n ≡ p
+  or_all true p n e h = refl
+  or_all false p n e h = let l = ltb-false p n e in omega arith
+
+  pub first_place_lem : (l : List ℕ) (r : Option ℕ) (k : ℕ) → r ≡ position test (first_chunks 2 (length l / 2) l) → k ≡ unwrap_or r (length (first_chunks 2 (length l / 2) l)) → k ≡ first_place (nodes l) node
+  unfolding nodes
+  first_place_lem l r k e q =
+      let n : ℕ = length l / 2 in
+      let p : ℕ = position_or_len test (first_chunks 2 n l) in
+      let m : ℕ = length (first_chunks 2 n l) in
+      let h : p ≤ m = rw (first_is n l, how_many n l) at (first_most (first_nodes n l)) in
+      q ∙ ap (λ (o : Option ℕ). unwrap_or o m) e ∙ or_all (ltb p m) p m refl h ∙ sym (first_is n l)
+
+-- ---- how many nodes are listed
+
+pub listed_is : (n k : ℕ) → k ≡ min n 64 → k ≡ listed_count n
+unfolding listed_count choose
+listed_is n k e =
+    ⊎_elim
+    (λ (h : 64 ≤ n). e ∙ min-eq_right h ∙ rw (le-ltb n 64 h))
+    (λ (h : n < 64). let m : n ≤ 64 = omega arith in e ∙ min-eq_left m ∙ rw (lt-ltb n 64 h))
+    (le_or_lt 64 n)
 
 -- ---- the index: the search goes through the whole list, and count says how many nodes of it are listed
 

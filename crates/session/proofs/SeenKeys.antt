@@ -84,7 +84,7 @@ module _ (mark : ℕ) (keys areas services individual : List ℕ) (room : ℕ) (
   pub derivation_is : derivation mark keys areas services individual room ≡ derived_for mark (entries keys) (nodes areas) (nodes services) individual
   unfolding derivation derived_before16 with_room choose
   derivation_is =
-      rw (rows_pass (derive_rows mark keys areas services individual) (derived_for mark (entries keys) (nodes areas) (nodes services) individual) 0 (sym passed) refl, le-ltb room _ fits)
+      rw (rows_pass (derive_rows mark keys areas services individual) (derived_for mark (entries keys) (nodes areas) (nodes services) individual) passed, le-ltb room _ fits)
 
   pub derivation_number : (derivation mark keys areas services individual room).number ≡ (derived_for mark (entries keys) (nodes areas) (nodes services) individual).number
   derivation_number = ap (λ (d : Derived). d.number) derivation_is

@@ -1,39 +1,53 @@
 -- The session's steps: which row decides, and what is left of the session. Assumes nothing.
 use mathlib.Core.Path.{◌≡◌, refl, sym, ap, ◌∙◌}
-use mathlib.Core.Bool.{true, false}
-use mathlib.Core.List.{List, ◌++◌, append-nil}
-use mathlib.Core.Logic.{⊎_elim}
-use Prim.Native.Nat.{ℕ, zero, suc, ◌+◌, ◌-◌, ◌≤◌, ◌<◌}
-use native.Mathlib.Nat.{sub-zero}
+use mathlib.Core.Bool.{Bool, true, false}
+use mathlib.Core.List.{List, ◌++◌}
+use mathlib.Core.Logic.{◌⊎◌, inl, inr, ⊎_elim}
+use Prim.Native.Nat.{ℕ, zero, suc, ◌+◌, ◌-◌, ◌%◌, ◌≤◌, ◌<◌, min}
+use native.Mathlib.Nat.{sub-zero, min-eq_left, min-eq_right}
 use native.Mathlib.Omega.{arith}
-use borrow.Author.Tests.{eq-eqb, ne_eqb, lt-ltb, le-ltb, ltb-false}
+use borrow.Author.Tests.{eqb-true, eqb-false, eq-eqb, ne_eqb, lt-ltb, le-ltb}
 use lib.Dec.{eqb, lit≤}
 use lib.ListN.{length, take, drop, replicate, length-append, length-replicate}
 use lib.Seq.{take_all}
-use Rattle.answer.specs.Outcome.{Row, Meets, choose, decide, refused, first_of, over}
-use Rattle.answer.specs.Tests.{either, both}
+use Rattle.std.specs.Prelude.{Result, Ok, Err, ◌≢◌}
 use Rattle.cipher.proofs.Numbers.{le_or_lt}
-use Rattle.answer.proofs.Rows.{Refused, choose_most, refused_meets, numbered, decide_false, first_refuses, first_passes, either_false, is_number}
+use Rattle.answer.specs.declared.answer.Accepted.{Accepted}
+use Rattle.answer.specs.declared.refusal.Refusal.{Refusal}
+use Rattle.answer.specs.declared.refusal.Refusal.TheVariants.{NumberExhausted, BadMarkOrLength}
+use Rattle.answer.specs.declared.scheme.Scheme.{Scheme}
+use Rattle.answer.specs.declared.scheme.Scheme.TheVariants.{Des, Aes128}
+use Rattle.answer.specs.Scheme.{mark_of}
+use Rattle.answer.specs.Refusal.{refusal_number}
+use Rattle.answer.specs.Outcome.{Outcome, Meets, Answer, answer_number, answer_length, answer_transaction, accepted, choose, decide, refused, first_of, over}
+use Rattle.answer.specs.Delivery.{delivering}
+use Rattle.answer.specs.Tests.{isnt, either, both}
+use Rattle.answer.proofs.Rows.{refusal_some, err_meets, choose_most, numbered, first_holds}
 use Rattle.frame.proofs.Schemes.{opening_whole}
-use Rattle.session.specs.Session.{credentials_size, credentials_of, make_rows, filled, with_number, with_count, Step, stepped, Steps, more, counting, opened, accept_rows, receiving, received, Receives}
+use Rattle.session.specs.Session.{credentials_size, credentials_of, make_rows, filled, Makes, with_number, with_count, Step, stepped, StepsTo, Steps, more, counting, opened, accept_rows, receiving, received, Receives}
 use Rattle.session.specs.declared.context.AuthenticatedContext.{AuthenticatedContext}
-use Rattle.answer.specs.declared.answer.Answer.{Answer}
-use Rattle.session.specs.declared.context.Received.{Received}
 
 -- ---- the number step
 
-module _ (s : AuthenticatedContext) (r : Answer) (u : AuthenticatedContext) where
-  stepped_full : s.transaction_number ≡ 65535 → stepped s ≡ record { number = 9; transaction = 0; session = s }
+module _ (s : AuthenticatedContext) where
+  pub stepped_full : s.transaction_number ≡ 0xFFFF → stepped s ≡ record { number = 9; transaction = 0; session = s }
   unfolding stepped choose
   stepped_full e = rw (eq-eqb _ _ e)
 
-  stepped_on : (s.transaction_number ≡ 65535 → ⊥) → stepped s ≡ record { number = 0; transaction = s.transaction_number + 1; session = with_number (s.transaction_number + 1) s }
+  pub stepped_on : s.transaction_number ≢ 0xFFFF → stepped s ≡ record { number = 0; transaction = s.transaction_number + 1; session = with_number (s.transaction_number + 1) s }
   unfolding stepped choose
-  stepped_on e = rw (ne_eqb _ _ e)
+  stepped_on h = rw (ne_eqb _ _ h)
 
-  -- an answer and a session that are those of a step
-  steps_as : (t : Step) → stepped s ≡ t → (r.number ≡ t.number) × (r.length ≡ 0) × (r.transaction_number ≡ t.transaction) → u ≡ t.session → Steps s r u
-  steps_as t q h c =
+  -- by value
+  pub step_refused : s.transaction_number ≡ 0xFFFF → StepsTo s (Err NumberExhausted)
+  step_refused e = (ap (λ (x : Step). x.number) (stepped_full e), ap (λ (x : Step). x.session) (stepped_full e))
+
+  pub step_taken : s.transaction_number ≢ 0xFFFF → StepsTo s (Ok (with_number (s.transaction_number + 1) s))
+  step_taken h = (ap (λ (x : Step). x.number) (stepped_on h), sym (ap (λ (x : Step). x.session) (stepped_on h)))
+
+  -- on the session that is lent
+  steps_as : (t : Step) (r : Answer) (u : AuthenticatedContext) → stepped s ≡ t → (answer_number r ≡ t.number) × (answer_length r ≡ 0) × (answer_transaction r ≡ t.transaction) → u ≡ t.session → Steps s r u
+  steps_as t r u q h c =
       record {
         number = h.0 ∙ sym (ap (λ (x : Step). x.number) q);
         length_none = h.1;
@@ -41,38 +55,55 @@ module _ (s : AuthenticatedContext) (r : Answer) (u : AuthenticatedContext) wher
         session = c ∙ sym (ap (λ (x : Step). x.session) q);
       }
 
-  pub steps_refused : s.transaction_number ≡ 65535 → Refused 9 r → u ≡ s → Steps s r u
-  steps_refused e h c = steps_as _ (stepped_full e) h c
+  pub steps_refused : (e : Refusal) → StepsTo s (Err e) → {r : Answer} → r ≡ Err e → Steps s r s
+  steps_refused e h q = rw q (go (eqb s.transaction_number 0xFFFF) refl)
+    where
+      go : (b : Bool) → eqb s.transaction_number 0xFFFF ≡ b → Steps s (Err e) s
+      go true q = let f = stepped_full (eqb-true _ _ q) in steps_as _ (Err e) s f (sym h.0 ∙ ap (λ (x : Step). x.number) f, refl, refl) refl
+      go false q =
+          let z : 0 ≡ refusal_number e = sym (ap (λ (x : Step). x.number) (stepped_on (eqb-false _ _ q))) ∙ h.0 in
+          absurd (refusal_some e (sym z))
 
-  pub steps_on : (s.transaction_number ≡ 65535 → ⊥) → (r.number ≡ 0) × (r.length ≡ 0) × (r.transaction_number ≡ s.transaction_number + 1) → u ≡ with_number (s.transaction_number + 1) s → Steps s r u
-  steps_on e h c = steps_as _ (stepped_on e) h c
+  pub steps_taken : (a : Accepted) (u : AuthenticatedContext) → StepsTo s (Ok u) → (a.length ≡ 0) × (a.transaction_number ≡ u.transaction_number) → Steps s (Ok a) u
+  unfolding with_number
+  steps_taken a u h k = go (eqb s.transaction_number 0xFFFF) refl
+    where
+      go : (b : Bool) → eqb s.transaction_number 0xFFFF ≡ b → Steps s (Ok a) u
+      go true q = let z : 9 ≡ 0 = sym (ap (λ (x : Step). x.number) (stepped_full (eqb-true _ _ q))) ∙ h.0 in absurd (omega (arith, z))
+      go false q =
+          let f = stepped_on (eqb-false _ _ q) in
+          let c = h.1 ∙ ap (λ (x : Step). x.session) f in
+          steps_as _ (Ok a) u f (refl, k.0, k.1 ∙ ap (λ (t : AuthenticatedContext). t.transaction_number) c) c
 
 -- ---- the count
 
+one_more : (n : ℕ) → n ≤ 65535 → min (n + 1) 65535 ≡ more n
+unfolding more choose
+one_more n most =
+    ⊎_elim
+    (λ (l : 65535 ≤ n). let m : 65535 ≤ n + 1 = omega arith in min-eq_right m ∙ rw (le-ltb n 65535 l) (omega arith))
+    (λ (l : n < 65535). let m : n + 1 ≤ 65535 = omega arith in min-eq_left m ∙ rw (lt-ltb n 65535 l))
+    (le_or_lt 65535 n)
+
 module _ (number : ℕ) (s : AuthenticatedContext) where
-  pub counting_low : number < 10 → s ≡ counting number s
+  pub counted : 10 ≤ number → number ≤ 15 → s.turned_away ≤ 65535 → with_count (min (s.turned_away + 1) 65535) s ≡ counting number s
   unfolding counting choose both
-  counting_low h = let l : number ≤ 9 = omega arith in rw (le-ltb 9 number l)
+  counted low high most =
+      let l : 9 < number = omega arith in
+      let h : number < 16 = omega arith in
+      rw (lt-ltb 9 number l, lt-ltb number 16 h) (ap (λ (n : ℕ). with_count n s) (one_more s.turned_away most))
 
-  pub counting_high : 15 < number → s ≡ counting number s
+  pub not_counted : (10 ≤ number → number ≤ 15 → ⊥) → s ≡ counting number s
   unfolding counting choose both
-  counting_high h = let l : 9 < number = omega arith in rw (lt-ltb 9 number l, le-ltb number 16 h)
-
-  module _ (low : 10 ≤ number) (high : number ≤ 15) where
-    counting_one : counting number s ≡ with_count (more s.turned_away) s
-    unfolding counting choose both
-    counting_one =
-        let l : 9 < number = omega arith in
-        let h : number < 16 = omega arith in
-        rw (lt-ltb 9 number l, lt-ltb number 16 h)
-
-    pub counting_full : s.turned_away ≡ 65535 → s ≡ counting number s
-    unfolding more choose with_count
-    counting_full e = sym (counting_one ∙ rw e)
-
-    pub counting_more : s.turned_away < 65535 → with_count (s.turned_away + 1) s ≡ counting number s
-    unfolding more choose
-    counting_more h = sym (counting_one ∙ rw (lt-ltb s.turned_away 65535 h))
+  not_counted n =
+      ⊎_elim
+      (λ (l : 10 ≤ number).
+      ⊎_elim
+      (λ (h : 16 ≤ number). let k : 9 < number = l in rw (lt-ltb 9 number k, le-ltb number 16 h))
+      (λ (h : number < 16). absurd (n l (omega arith)))
+      (le_or_lt 16 number))
+      (λ (l : number < 10). let k : number ≤ 9 = omega arith in rw (le-ltb 9 number k))
+      (le_or_lt 10 number)
 
 -- ---- making
 
@@ -88,37 +119,21 @@ filled_is n l s h e =
     let k : length l ≤ length (replicate {A = ℕ} n 0) = rw (length-replicate {A = ℕ} n 0) h in
     e ∙ rw (take_all (length (replicate {A = ℕ} n 0)) l k, drop_zeros (length l) n)
 
--- all of it
-pub filled_all : (n : ℕ) (l s : List ℕ) → length l ≡ n → s ≡ take (length (replicate {A = ℕ} n 0)) l ++ drop (length l) (replicate n 0) → s ≡ l
-filled_all n l s h e =
-    let k : length l ≤ length (replicate {A = ℕ} n 0) = rw (length-replicate {A = ℕ} n 0) (omega arith) in
-    let z : n - length l ≡ 0 = omega arith in
-    e ∙ rw (take_all (length (replicate {A = ℕ} n 0)) l k, drop_zeros (length l) n, z) (append-nil l)
-
 pub credentials_most : (scheme : ℕ) → credentials_size scheme ≤ 36
 unfolding credentials_size
 credentials_most scheme = choose_most (eqb scheme 1) 8 36 36 (lit≤ tt) (lit≤ tt)
 
-module _ (scheme id credentials listed : ℕ) where
-  -- what holds where no row does
-  pub record Makeable : Type 0 where
-    pub six : id ≡ 6
-    pub all : credentials ≡ credentials_size scheme
-    pub short : listed ≤ 128
-
-  pub make_passes : (k : ℕ) → k ≡ first_of (make_rows scheme id credentials listed) → k ≡ 0 → Makeable
-  unfolding make_rows numbered both
-  make_passes k e z =
-      let a = first_passes (make_rows scheme id credentials listed) k refl e z in
-      let b = (either_false _ _ a.0).1 in
-      let c = either_false _ _ b in
-      let d = either_false _ _ c.1 in
-      record { six = is_number id 6 c.0; all = is_number credentials _ d.0; short = ltb-false 128 listed a.1.0 }
-
--- its rows have numbers
-pub make_numbers : (scheme id credentials listed : ℕ) → numbered (make_rows scheme id credentials listed) ≡ true
-unfolding make_rows numbered both
-make_numbers scheme id credentials listed = refl
+-- one test of lengths that fails
+any_of : (a i k n : Bool) → (i ≡ false) ⊎ ((k ≡ false) ⊎ (n ≡ false)) → either a (either (isnt i) (either (isnt k) (isnt n))) ≡ true
+unfolding either isnt
+any_of true i k n h = refl
+any_of false false k n h = refl
+any_of false true false n h = refl
+any_of false true true false h = refl
+any_of false true true true h = absurd (⊎_elim no (⊎_elim no no) h)
+  where
+    no : true ≡ false → ⊥
+    no e = cc
 
 -- a mark from 1 to 2 is known, others are not
 pub mark_one_two : (s : ℕ) → 1 ≤ s → s ≤ 2 → either (eqb s 1) (eqb s 2) ≡ true
@@ -140,6 +155,51 @@ mark_high s h =
     let m : s ≡ 2 → ⊥ = λ e. omega arith in
     rw (ne_eqb s 1 n, ne_eqb s 2 m)
 
+-- a mark that names a scheme
+pub known_mark : (s : Scheme) (mark : ℕ) → mark_of s ≡ mark → either (eqb mark 1) (eqb mark 2) ≡ true
+unfolding either
+known_mark Des mark h = rw (sym h)
+known_mark Aes128 mark h = rw (sym h)
+
+module _ (scheme id credentials listed : ℕ) where
+  abbrev number_made : ℕ
+  number_made = first_of (make_rows scheme id credentials listed)
+
+  -- what the readers of mark and ID answered
+  pub unknown_mark : (e : Refusal) → (e ≡ BadMarkOrLength) × (scheme ≢ 1) × (scheme ≢ 2) → number_made ≡ refusal_number e
+  unfolding make_rows first_of choose isnt either
+  unknown_mark e h = rw (h.0, ne_eqb scheme 1 h.1, ne_eqb scheme 2 h.2)
+
+  pub wrong_id : (e : Refusal) → (id ≢ 6) × (e ≡ BadMarkOrLength) → number_made ≡ refusal_number e
+  unfolding make_rows
+  wrong_id e h = first_holds 17 _ _ (any_of _ (eqb id 6) (eqb credentials (credentials_size scheme)) (eqb (listed % 2) 0) (inl (ne_eqb id 6 h.0))) ∙ ap refusal_number (sym h.1)
+
+  pub wrong_credentials : credentials ≢ credentials_size scheme → number_made ≡ 17
+  unfolding make_rows
+  wrong_credentials h = first_holds 17 _ _ (any_of _ (eqb id 6) (eqb credentials (credentials_size scheme)) (eqb (listed % 2) 0) (inr (inl (ne_eqb credentials (credentials_size scheme) h))))
+
+  pub half_node : listed % 2 ≢ 0 → number_made ≡ 17
+  unfolding make_rows
+  half_node h = first_holds 17 _ _ (any_of _ (eqb id 6) (eqb credentials (credentials_size scheme)) (eqb (listed % 2) 0) (inr (inr (ne_eqb (listed % 2) 0 h))))
+
+  module _ (mark : either (eqb scheme 1) (eqb scheme 2) ≡ true) (six : id ≡ 6) (size : credentials ≡ credentials_size scheme) (even : listed % 2 ≡ 0) where
+    pub too_many_nodes : 128 < listed → number_made ≡ 1
+    unfolding make_rows first_of choose isnt either
+    too_many_nodes h = rw (mark, eq-eqb _ _ six, eq-eqb _ _ size, eq-eqb _ _ even, lt-ltb 128 listed h)
+
+    pub no_row : listed ≤ 128 → number_made ≡ 0
+    unfolding make_rows first_of choose isnt either
+    no_row h = rw (mark, eq-eqb _ _ six, eq-eqb _ _ size, eq-eqb _ _ even, le-ltb 128 listed h)
+
+-- its rows have numbers
+pub make_numbers : (scheme id credentials listed : ℕ) → numbered (make_rows scheme id credentials listed) ≡ true
+unfolding make_rows numbered both
+make_numbers scheme id credentials listed = refl
+
+pub made_refused : (scheme number : ℕ) (id credentials nodes : List ℕ) (e : Refusal) {r : Result AuthenticatedContext Refusal} → r ≡ Err e
+    → first_of (make_rows scheme (length id) (length credentials) (length nodes)) ≡ refusal_number e → Makes scheme number id credentials nodes r
+made_refused scheme number id credentials nodes e {r} q h = rw q h
+
 -- ---- the response step
 
 -- what was written over the front of a string that kept its length fits it
@@ -149,44 +209,40 @@ fits_front b o w e l =
     let q : length b + length (drop (length b) o) ≡ length o = sym (length-append b (drop (length b) o)) ∙ ap length (sym e) ∙ l in
     omega (arith, q)
 
--- no row of a response step holds: the payload fits
-pub accept_fits : (session number payload room k : ℕ) → k ≡ first_of (accept_rows session number payload room) → k ≡ 0 → payload ≤ room
-unfolding accept_rows numbered both
-accept_fits session number payload room k e z = ltb-false room payload (first_passes (accept_rows session number payload room) k refl e z).1.0
+module _ (s : AuthenticatedContext) (code : ℕ) (d : List ℕ) (room : ℕ) where
+  -- the opening into the work block
+  abbrev trial : Outcome
+  trial = opened s code d
 
--- what `turn_away` ensures
-abbrev pub TurnedAway : ℕ → AuthenticatedContext → Received → Type 0
-TurnedAway k s r = (r.answer.number ≡ k) × (r.answer.length ≡ 0) × (r.answer.transaction_number ≡ 0) × (r.context ≡ counting k s)
+  pub receiving_refused : (e : Refusal) (out : List ℕ) {r : Answer} → r ≡ Err e → refusal_number e ≡ trial.number → Meets (receiving s code d room) r out out
+  unfolding receiving opened choose
+  receiving_refused e out {r} q n =
+      let h : trial.number ≢ 0 = λ z. refusal_some e (n ∙ z) in
+      rw (ne_eqb _ 0 h, opening_whole s.scheme code 256 (credentials_of s) s.transaction_id d h, ← n) (err_meets e out q)
 
-module _ (s : AuthenticatedContext) (r : Received) where
-  turned_away_lem : (k : ℕ) (out : List ℕ) → (k ≡ 0 → ⊥) → TurnedAway k s r → Receives s (refused k) r out out
-  unfolding refused received choose
-  turned_away_lem k out h t = record { answer = refused_meets k r.answer out (t.0, t.1, t.2); session = t.3 ∙ rw (ne_eqb k 0 h) }
+  -- the opening was accepted
+  module _ (z : 0 ≡ trial.number) where
+    goes_on : receiving s code d room ≡ decide (accept_rows s.transaction_number trial.transaction (length trial.bytes) room) (accepted trial.transaction trial.bytes)
+    unfolding receiving choose accepted
+    goes_on =
+        rw (eq-eqb _ 0 (sym z))
+        (ap (λ (n : ℕ). decide (accept_rows s.transaction_number trial.transaction (length trial.bytes) room) (record { number = n; transaction = trial.transaction; bytes = trial.bytes })) (sym z))
 
-  module _ (code : ℕ) (d : List ℕ) (room : ℕ) where
-    pub receives_refused : (out : List ℕ) → ((opened s code d).number ≡ 0 → ⊥) → TurnedAway (opened s code d).number s r → Receives s (receiving s code d room) r out out
-    unfolding receiving opened choose
-    receives_refused out h t =
-        rw (ne_eqb _ 0 h, opening_whole s.scheme code 256 (credentials_of s) s.transaction_id d h) (turned_away_lem _ out h t)
+    pub not_above : trial.transaction ≤ s.transaction_number → receiving s code d room ≡ refused 15
+    unfolding accept_rows decide choose isnt
+    not_above h = goes_on ∙ rw (le-ltb _ _ h)
 
-    -- the opening was accepted
-    module _ (z : (opened s code d).number ≡ 0) where
-      rows : List Row
-      rows = accept_rows s.transaction_number (opened s code d).transaction (length (opened s code d).bytes) room
+    pub above : s.transaction_number < trial.transaction → receiving s code d room ≡ delivering trial.transaction trial.bytes room
+    unfolding accept_rows delivering decide choose isnt
+    above h = goes_on ∙ rw (lt-ltb _ _ h)
 
-      goes_on : receiving s code d room ≡ decide rows (opened s code d)
-      unfolding receiving rows choose
-      goes_on = rw (eq-eqb _ 0 z)
+-- ---- what is left of the session
 
-      pub receives_guarded : (k : ℕ) (out : List ℕ) → k ≡ first_of (accept_rows s.transaction_number (opened s code d).transaction (length (opened s code d).bytes) room) → (k ≡ 0 → ⊥) → TurnedAway k s r
-          → Receives s (receiving s code d room) r out out
-      unfolding rows
-      receives_guarded k out e h t = rw (goes_on, first_refuses rows (opened s code d) k e h) (turned_away_lem k out h t)
+module _ (s t : AuthenticatedContext) (o : Outcome) (before after : List ℕ) where
+  pub receives_refused : (e : Refusal) → Meets o (Err e) before after → t ≡ counting (refusal_number e) s → Receives s o (Err e) t before after
+  unfolding received choose
+  receives_refused e m h = record { answer = m; session = h ∙ rw (← m.number, ne_eqb _ 0 (refusal_some e)) }
 
-      pub receives_accepted : (k : ℕ) (out after : List ℕ) → k ≡ first_of (accept_rows s.transaction_number (opened s code d).transaction (length (opened s code d).bytes) room) → k ≡ 0
-          → (work done : List ℕ) → Meets (opened s code d) r.answer work done → after ≡ over (opened s code d).bytes out
-          → r.context ≡ with_number (opened s code d).transaction s → Receives s (receiving s code d room) r out after
-      unfolding rows accept_rows numbered both received choose
-      receives_accepted k out after e n work done m w c =
-          rw (goes_on, decide_false rows (opened s code d) (first_passes rows k refl e n))
-          (record { answer = record { number = m.number; length_is = m.length_is; transaction = m.transaction; output = w }; session = c ∙ rw (eq-eqb _ 0 z) })
+  pub receives_accepted : (a : Accepted) → Meets o (Ok a) before after → t ≡ with_number a.transaction_number s → Receives s o (Ok a) t before after
+  unfolding received choose
+  receives_accepted a m h = record { answer = m; session = h ∙ rw (m.transaction, eq-eqb _ 0 (sym m.number)) }

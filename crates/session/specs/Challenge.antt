@@ -1,4 +1,4 @@
--- Document 01, Layouts: challenges. 1A and 1B carry random 1, 2A and 2B random 2. 1A, 2B go under one key, 1B, 2A under another; both keys come
+-- docs/RULES.md, Layouts: challenges. 1A and 1B carry random 1, 2A and 2B random 2. 1A, 2B go under one key, 1B, 2A under another; both keys come
 -- from the derived keys and the card's IDm. Assumes nothing.
 use Rattle.std.specs.Prelude.{ℕ, Bool, List, [], ◌∷◌, ◌++◌, eqb, ltb, length, take, drop, replicate}
 use Rattle.cipher.specs.Bytes.{◌⊕◌}

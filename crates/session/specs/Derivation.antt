@@ -1,11 +1,14 @@
--- Document 01, Turned-down calls (Derivation) and Layouts (both chains): derivation of the keys of an authentication. The keys of areas and
--- services, each in turn, encrypt a block. Assumes nothing.
-use Rattle.std.specs.Prelude.{ℕ, ◌%◌, ◌≡◌, Bool, List, [], ◌∷◌, ◌++◌, eqb, ltb, length, take, replicate}
+-- Derivation of the keys of an authentication: the keys of areas and services, each in turn, encrypt a block. The numbers of the refusals are those
+-- of docs/NUMBERS.md. Assumes nothing.
+use Rattle.std.specs.Prelude.{ℕ, ◌%◌, ◌≡◌, Bool, List, [], ◌∷◌, ◌++◌, eqb, ltb, length, take, replicate, Result, Ok, Err}
 use Rattle.cipher.specs.Fips197.{aes_encrypt}
 use Rattle.cipher.specs.Fips46.{des_encrypt}
 use Rattle.cipher.specs.Fold.{under_each}
 use Rattle.answer.specs.Outcome.{Row, row, choose, first_of, over}
+use Rattle.answer.specs.Refusal.{refusal_number, refusal_node}
+use Rattle.answer.specs.Scheme.{mark_of}
 use Rattle.answer.specs.Tests.{isnt, either}
+use Rattle.answer.specs.declared.refusal.Refusal.{Refusal}
 use Rattle.session.specs.Entries.{Entry, entries, nodes, place, has, key_at, unknown_algorithm, twice}
 use Rattle.session.specs.ServiceCode.{bearing}
 use Rattle.session.specs.declared.keys.DerivedAuthKeys.{DerivedAuthKeys}
@@ -148,11 +151,28 @@ with_room room d = choose (ltb room (length d.bytes)) (turned_down 16 0) d
 unfoldable pub derivation : ℕ → List ℕ → List ℕ → List ℕ → List ℕ → ℕ → Derived
 derivation mark keys areas services individual room = with_room room (derived_before16 mark keys areas services individual)
 
+-- what a derivation answers: its number, which is 0 for an acceptance; the node that lacks a key; the mark of the scheme that was used, and the
+-- length of the keys, which are 0 with a refusal
+abbrev pub derived_number : Result DerivedAuthKeys Refusal → ℕ
+derived_number (Ok k) = 0
+derived_number (Err e) = refusal_number e
+
+abbrev pub derived_node : Result DerivedAuthKeys Refusal → ℕ
+derived_node (Ok k) = 0
+derived_node (Err e) = refusal_node e
+
+abbrev pub derived_scheme : Result DerivedAuthKeys Refusal → ℕ
+derived_scheme (Ok k) = mark_of k.scheme
+derived_scheme (Err e) = 0
+
+abbrev pub derived_length : Result DerivedAuthKeys Refusal → ℕ
+derived_length (Ok k) = k.length
+derived_length (Err e) = 0
+
 -- an answer r, and an output that was `before` and is `after`, are those of d
-pub record Derives (d : Derived) (r : DerivedAuthKeys) (before after : List ℕ) : Type 0 where
-  pub number : r.answer.number ≡ d.number
-  pub node : r.node ≡ d.node
-  pub scheme : r.scheme ≡ d.scheme
-  pub length_is : r.answer.length ≡ length d.bytes
-  pub transaction_none : r.answer.transaction_number ≡ 0
+pub record Derives (d : Derived) (r : Result DerivedAuthKeys Refusal) (before after : List ℕ) : Type 0 where
+  pub number : derived_number r ≡ d.number
+  pub node : derived_node r ≡ d.node
+  pub scheme : derived_scheme r ≡ d.scheme
+  pub length_is : derived_length r ≡ length d.bytes
   pub output : after ≡ over d.bytes before

@@ -1,4 +1,4 @@
--- Document 01, Carried and added (the turned-away count) and Corners (mod.rs): what happens to a session from its making on, which is number
+-- docs/RULES.md, Carried and added (the turned-away count) and Corners (mod.rs): what happens to a session from its making on, which is number
 -- steps, settings of the number, responses. Assumes nothing.
 use Rattle.std.specs.Prelude.{ℕ, zero, suc, ◌+◌, List, [], ◌∷◌, ltb}
 use Rattle.answer.specs.Outcome.{choose}

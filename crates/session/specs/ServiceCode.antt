@@ -1,4 +1,4 @@
--- Document 01, Corners (keys.rs, types.rs): service codes. Assumes nothing.
+-- Service codes: which services are key-free, so that a DES chain skips them. Assumes nothing.
 use Rattle.std.specs.Prelude.{ℕ, ◌%◌, Bool, List, [], ◌∷◌, eqb, ltb}
 use Rattle.answer.specs.Outcome.{choose}
 use Rattle.answer.specs.Tests.{both}

@@ -1,14 +1,13 @@
--- Document 01, Corners (mod.rs), Carried and added: the session, which is its number, transaction ID, scheme, credentials, nodes, and how many
+-- docs/RULES.md, Corners (mod.rs), Carried and added: the session, which is its number, transaction ID, scheme, credentials, nodes, and how many
 -- responses were turned away; its number step, node index and response step. Assumes nothing.
-use Rattle.std.specs.Prelude.{ℕ, suc, ◌+◌, ◌-◌, ◌*◌, ◌/◌, ◌%◌, ◌≡◌, List, [], ◌∷◌, ◌++◌, eqb, ltb, length, take, replicate}
-use Rattle.answer.specs.declared.answer.Answer.{Answer}
-use Rattle.answer.specs.Outcome.{Outcome, Row, Meets, row, choose, decide, first_of}
+use Rattle.std.specs.Prelude.{ℕ, suc, ◌+◌, ◌-◌, ◌*◌, ◌/◌, ◌%◌, ◌≡◌, List, [], ◌∷◌, ◌++◌, eqb, ltb, length, take, replicate, Result, MatchResult}
+use Rattle.answer.specs.declared.refusal.Refusal.{Refusal}
+use Rattle.answer.specs.Refusal.{refusal_number}
+use Rattle.answer.specs.Outcome.{Outcome, Row, Meets, Answer, answer_number, answer_length, answer_transaction, row, choose, decide, first_of}
 use Rattle.frame.specs.Scheme.{opening}
 use Rattle.answer.specs.Tests.{isnt, either, both}
 use Rattle.session.specs.Entries.{nodes}
 use Rattle.session.specs.declared.context.AuthenticatedContext.{AuthenticatedContext}
-use Rattle.session.specs.declared.context.Made.{Made}
-use Rattle.session.specs.declared.context.Received.{Received}
 
 -- ---- making a session
 
@@ -41,14 +40,12 @@ established scheme number id credentials listed =
       turned_away = 0;
     }
 
--- what a refusal gives
-unfoldable pub nothing : AuthenticatedContext
-nothing = established 0 0 (replicate 6 0) [] []
-
-pub record Makes (scheme number : ℕ) (id credentials nodes : List ℕ) (r : Made) : Type 0 where
-  pub number_is : r.number ≡ first_of (make_rows scheme (length id) (length credentials) (length nodes))
-  pub accepted : r.number ≡ 0 → r.context ≡ established scheme number id credentials nodes
-  pub refused : (r.number ≡ 0 → ⊥) → r.context ≡ nothing
+-- a session, or the refusal of the first row that holds
+abbrev pub Makes : ℕ → ℕ → List ℕ → List ℕ → List ℕ → Result AuthenticatedContext Refusal → Type 0
+Makes scheme number id credentials nodes r =
+    MatchResult r
+    (λ s. (first_of (make_rows scheme (length id) (length credentials) (length nodes)) ≡ 0) × (s ≡ established scheme number id credentials nodes))
+    (λ e. first_of (make_rows scheme (length id) (length credentials) (length nodes)) ≡ refusal_number e)
 
 -- ---- its parts
 
@@ -110,10 +107,14 @@ stepped s =
 
 -- an answer r, and a session that was s and is t
 pub record Steps (s : AuthenticatedContext) (r : Answer) (t : AuthenticatedContext) : Type 0 where
-  pub number : r.number ≡ (stepped s).number
-  pub length_none : r.length ≡ 0
-  pub transaction : r.transaction_number ≡ (stepped s).transaction
+  pub number : answer_number r ≡ (stepped s).number
+  pub length_none : answer_length r ≡ 0
+  pub transaction : answer_transaction r ≡ (stepped s).transaction
   pub session : t ≡ (stepped s).session
+
+-- the step by value: the session after it, or its refusal, after which the session is s
+abbrev pub StepsTo : AuthenticatedContext → Result AuthenticatedContext Refusal → Type 0
+StepsTo s r = MatchResult r (λ t. ((stepped s).number ≡ 0) × (t ≡ (stepped s).session)) (λ e. ((stepped s).number ≡ refusal_number e) × ((stepped s).session ≡ s))
 
 -- ---- the response step: open, require the number to exceed the session's, then set it
 
@@ -145,6 +146,7 @@ receiving s code d room =
 unfoldable pub received : AuthenticatedContext → Outcome → AuthenticatedContext
 received s o = choose (eqb o.number 0) (with_number o.transaction s) (counting o.number s)
 
-pub record Receives (s : AuthenticatedContext) (o : Outcome) (r : Received) (before after : List ℕ) : Type 0 where
-  pub answer : Meets o r.answer before after
-  pub session : r.context ≡ received s o
+-- an answer r, a session that was s and is t, and an output that was `before` and is `after`
+pub record Receives (s : AuthenticatedContext) (o : Outcome) (r : Answer) (t : AuthenticatedContext) (before after : List ℕ) : Type 0 where
+  pub answer : Meets o r before after
+  pub session : t ≡ received s o

@@ -1,2 +1,3 @@
 -- Definitions that only contracts of functions inside the crate cite.
+pub mod ChallengeSteps
 pub mod DerivationSteps

@@ -26,17 +26,13 @@ impl AuthenticationContext {
     pub fn encrypt_challenge1a(self, random_1: [u8; 8]) -> [u8; 8]
         ensures { result ≡ tdea2_encrypt self.alpha self.l random_1 }
     {
-        let alpha = self.alpha;
-        let l = self.l;
-        cipher::encrypt_3des_block(random_1, alpha, l)
+        cipher::encrypt_3des_block(random_1, self.alpha, self.l)
     }
 
     pub fn decrypt_challenge1a(self, challenge_1a: [u8; 8]) -> [u8; 8]
         ensures { result ≡ tdea2_decrypt self.alpha self.l challenge_1a }
     {
-        let alpha = self.alpha;
-        let l = self.l;
-        cipher::decrypt_3des_block(challenge_1a, alpha, l)
+        cipher::decrypt_3des_block(challenge_1a, self.alpha, self.l)
     }
 
     pub fn encrypt_challenge2b(self, random_2: [u8; 8]) -> [u8; 8]
@@ -48,8 +44,7 @@ impl AuthenticationContext {
     pub fn verify_challenge2b(self, random_2: [u8; 8], challenge_2b: [u8; 8]) -> bool
         ensures { result ≡ same challenge_2b (tdea2_encrypt self.alpha self.l random_2) }
     {
-        let wanted = self.encrypt_challenge2b(random_2);
-        cipher::ct_eq(&challenge_2b, &wanted)
+        cipher::ct_eq(&challenge_2b, &self.encrypt_challenge2b(random_2))
     }
 
     // ---- 1B and 2A, under L and beta
@@ -57,16 +52,13 @@ impl AuthenticationContext {
     pub fn encrypt_challenge1b(self, random_1: [u8; 8]) -> [u8; 8]
         ensures { result ≡ tdea2_encrypt self.l self.beta random_1 }
     {
-        let l = self.l;
-        let beta = self.beta;
-        cipher::encrypt_3des_block(random_1, l, beta)
+        cipher::encrypt_3des_block(random_1, self.l, self.beta)
     }
 
     pub fn verify_challenge1b(self, random_1: [u8; 8], challenge_1b: [u8; 8]) -> bool
         ensures { result ≡ same challenge_1b (tdea2_encrypt self.l self.beta random_1) }
     {
-        let wanted = self.encrypt_challenge1b(random_1);
-        cipher::ct_eq(&challenge_1b, &wanted)
+        cipher::ct_eq(&challenge_1b, &self.encrypt_challenge1b(random_1))
     }
 
     pub fn encrypt_challenge2a(self, random_2: [u8; 8]) -> [u8; 8]
@@ -78,8 +70,6 @@ impl AuthenticationContext {
     pub fn decrypt_challenge2a(self, challenge_2a: [u8; 8]) -> [u8; 8]
         ensures { result ≡ tdea2_decrypt self.l self.beta challenge_2a }
     {
-        let l = self.l;
-        let beta = self.beta;
-        cipher::decrypt_3des_block(challenge_2a, l, beta)
+        cipher::decrypt_3des_block(challenge_2a, self.l, self.beta)
     }
 }

@@ -14,10 +14,7 @@ pub use challenge::{
     encrypt_challenge1b, encrypt_challenge2a, encrypt_challenge2b, verify_challenge1b,
     verify_challenge2b,
 };
-pub use context::{
-    AuthenticatedContext, Made, Received, Stepped, advance, increment_transaction_number, listed,
-    set_transaction_number,
-};
+pub use context::AuthenticatedContext;
 pub use des::AuthenticationContext;
 pub use keys::{DerivedAuthKeys, derive_auth_keys};
 pub use types::is_key_free_service;

@@ -27,11 +27,8 @@ pub struct SecureSessionKeys {
 fn build_authentication_context_block_v2_aes128(which: u8, idm: [u8; 8]) -> [u8; 16]
     ensures { result ≡ context_block which idm }
 {
-    let mut block = [0u8; 16];
-    block[0] = which;
-    block[1] = 0x02;
-    block[14] = 0x01;
-    cipher::copy(&idm, &mut block[6..14]);
+    let mut block = [which, 0x02, 0, 0, 0, 0, 0, 0, 0, 0, 0, 0, 0, 0, 0x01, 0x00];
+    block[6..14].copy_from_slice(&idm);
     block
 }
 
@@ -39,7 +36,7 @@ impl AuthenticationContextV2Aes128 {
     pub fn new(idm: [u8; 8], group_key: [u8; 16], individual_key: [u8; 16]) -> Self
         ensures { (result.alpha ≡ aes_encrypt (group_key ⊕ individual_key) (context_block 1 idm)) × (result.beta ≡ aes_encrypt (group_key ⊕ individual_key) (context_block 2 idm)) }
     {
-        let h = cipher::xor_blocks16(group_key, individual_key);
+        let h = cipher::xor_blocks(group_key, individual_key);
         let first = build_authentication_context_block_v2_aes128(0x01, idm);
         let second = build_authentication_context_block_v2_aes128(0x02, idm);
         let alpha = cipher::encrypt_aes128_block(first, h);
@@ -52,15 +49,13 @@ impl AuthenticationContextV2Aes128 {
     pub fn encrypt_challenge1a(self, random_1: [u8; 16]) -> [u8; 16]
         ensures { result ≡ aes_encrypt self.alpha random_1 }
     {
-        let alpha = self.alpha;
-        cipher::encrypt_aes128_block(random_1, alpha)
+        cipher::encrypt_aes128_block(random_1, self.alpha)
     }
 
     pub fn decrypt_challenge1a(self, challenge_1a: [u8; 16]) -> [u8; 16]
         ensures { result ≡ aes_decrypt self.alpha challenge_1a }
     {
-        let alpha = self.alpha;
-        cipher::decrypt_aes128_block(challenge_1a, alpha)
+        cipher::decrypt_aes128_block(challenge_1a, self.alpha)
     }
 
     pub fn encrypt_challenge2b(self, random_2: [u8; 16]) -> [u8; 16]
@@ -72,8 +67,7 @@ impl AuthenticationContextV2Aes128 {
     pub fn verify_challenge2b(self, random_2: [u8; 16], challenge_2b: [u8; 16]) -> bool
         ensures { result ≡ same challenge_2b (aes_encrypt self.alpha random_2) }
     {
-        let wanted = self.encrypt_challenge2b(random_2);
-        cipher::ct_eq(&challenge_2b, &wanted)
+        cipher::ct_eq(&challenge_2b, &self.encrypt_challenge2b(random_2))
     }
 
     // ---- 1B and 2A, under beta with Challenge 3C
@@ -81,17 +75,13 @@ impl AuthenticationContextV2Aes128 {
     fn beta_with_challenge_3c(self, challenge_3c: [u8; 4]) -> [u8; 16]
         ensures { result ≡ with_3c self.beta challenge_3c }
     {
-        let beta = self.beta;
-        let mut beta_mask = [0u8; 16];
-        cipher::copy(&challenge_3c, &mut beta_mask);
-        cipher::xor_blocks16(beta, beta_mask)
+        cipher::xor_blocks(self.beta, answer::fit(&challenge_3c))
     }
 
     pub fn encrypt_challenge1b(self, random_1: [u8; 16], challenge_3c: [u8; 4]) -> [u8; 16]
         ensures { result ≡ aes_encrypt (with_3c self.beta challenge_3c) random_1 }
     {
-        let beta = self.beta_with_challenge_3c(challenge_3c);
-        cipher::encrypt_aes128_block(random_1, beta)
+        cipher::encrypt_aes128_block(random_1, self.beta_with_challenge_3c(challenge_3c))
     }
 
     pub fn verify_challenge1b(
@@ -102,8 +92,10 @@ impl AuthenticationContextV2Aes128 {
     ) -> bool
         ensures { result ≡ same challenge_1b (aes_encrypt (with_3c self.beta challenge_3c) random_1) }
     {
-        let wanted = self.encrypt_challenge1b(random_1, challenge_3c);
-        cipher::ct_eq(&challenge_1b, &wanted)
+        cipher::ct_eq(
+            &challenge_1b,
+            &self.encrypt_challenge1b(random_1, challenge_3c),
+        )
     }
 
     pub fn encrypt_challenge2a(self, random_2: [u8; 16], challenge_3c: [u8; 4]) -> [u8; 16]
@@ -115,8 +107,7 @@ impl AuthenticationContextV2Aes128 {
     pub fn decrypt_challenge2a(self, challenge_2a: [u8; 16], challenge_3c: [u8; 4]) -> [u8; 16]
         ensures { result ≡ aes_decrypt (with_3c self.beta challenge_3c) challenge_2a }
     {
-        let beta = self.beta_with_challenge_3c(challenge_3c);
-        cipher::decrypt_aes128_block(challenge_2a, beta)
+        cipher::decrypt_aes128_block(challenge_2a, self.beta_with_challenge_3c(challenge_3c))
     }
 
     // ---- session keys, of random 2 alone
@@ -124,17 +115,17 @@ impl AuthenticationContextV2Aes128 {
     pub fn derive_secure_session_keys(self, random_2: [u8; 16]) -> SecureSessionKeys
         ensures { (result.encryption_key ≡ aes_encrypt random_2 (session_key_input 1)) × (result.mac_key ≡ aes_encrypt random_2 (session_key_input 2)) }
     {
-        derive_keys(random_2)
+        SecureSessionKeys::derive(random_2)
     }
 }
 
-pub(crate) fn derive_keys(random_2: [u8; 16]) -> SecureSessionKeys
-    ensures { (result.encryption_key ≡ aes_encrypt random_2 (session_key_input 1)) × (result.mac_key ≡ aes_encrypt random_2 (session_key_input 2)) }
-{
-    let encryption_key = cipher::encrypt_aes128_block(DERIVE_ENCRYPTION_KEY_INPUT, random_2);
-    let mac_key = cipher::encrypt_aes128_block(DERIVE_MAC_KEY_INPUT, random_2);
-    SecureSessionKeys {
-        encryption_key,
-        mac_key,
+impl SecureSessionKeys {
+    pub(crate) fn derive(random_2: [u8; 16]) -> Self
+        ensures { (result.encryption_key ≡ aes_encrypt random_2 (session_key_input 1)) × (result.mac_key ≡ aes_encrypt random_2 (session_key_input 2)) }
+    {
+        Self {
+            encryption_key: cipher::encrypt_aes128_block(DERIVE_ENCRYPTION_KEY_INPUT, random_2),
+            mac_key: cipher::encrypt_aes128_block(DERIVE_MAC_KEY_INPUT, random_2),
+        }
     }
 }

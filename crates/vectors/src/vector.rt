@@ -1,5 +1,6 @@
 // One line of a data file, run through `cipher` in every direction that it has.
-use textfile::Verdict;
+use std::alloc::Global;
+use textfile::{FieldError, Fields, Verdict};
 
 // What the four fields of a set's lines are.
 #[derive(Clone, Copy)]
@@ -18,238 +19,109 @@ pub(crate) enum Kind {
     Cmac,
 }
 
-pub(crate) fn run(kind: Kind, line: &[u8]) -> Verdict {
-    if line.len() == 0 {
-        return Verdict::Malformed;
+pub(crate) fn run(alloc: Global, kind: Kind, line: &str) -> Result<Verdict, FieldError> {
+    let fields = Fields::new(alloc, line)?;
+    if fields.texts.len() != 4 {
+        return Err(FieldError::Malformed);
     }
-    if line[0] == b'#' {
-        return Verdict::Comment;
-    }
-    if textfile::blanks(line) != 3 {
-        return Verdict::Malformed;
-    }
-    match kind {
-        Kind::Aes => aes(line),
-        Kind::Des => des(line),
-        Kind::Tdes => tdes(line),
-        Kind::Cbc => cbc(line),
-        Kind::Ofb => ofb(line),
-        Kind::Cmac => cmac(line),
-    }
-}
-
-fn judged(agrees: bool) -> Verdict {
-    if agrees {
-        Verdict::Agrees
-    } else {
-        Verdict::Differs
-    }
+    let agrees = match kind {
+        Kind::Aes => aes(&fields)?,
+        Kind::Des => des(&fields)?,
+        Kind::Tdes => tdes(&fields)?,
+        Kind::Cbc => cbc(&fields)?,
+        Kind::Ofb => ofb(&fields)?,
+        Kind::Cmac => cmac(&fields)?,
+    };
+    Ok(Verdict::from(agrees))
 }
 
 // Whether all bytes are equal. The library's own comparison has to say so too.
 fn same(a: &[u8], b: &[u8]) -> bool {
-    if a != b {
-        return false;
-    }
-    cipher::ct_eq(a, b)
+    a == b && cipher::ct_eq(a, b)
 }
 
-fn same8(a: [u8; 8], b: [u8; 8]) -> bool {
-    same(&a, &b)
-}
-
-fn same16(a: [u8; 16], b: [u8; 16]) -> bool {
-    same(&a, &b)
-}
-
-fn aes(line: &[u8]) -> Verdict {
-    let mut key = [0u8; 16];
-    let mut plain = [0u8; 16];
-    let mut sealed = [0u8; 16];
-    if textfile::decode(line, 0, &mut key) != 16 {
-        return Verdict::Malformed;
-    }
-    if !textfile::is_none(textfile::field(line, 1)) {
-        return Verdict::Malformed;
-    }
-    if textfile::decode(line, 2, &mut plain) != 16 {
-        return Verdict::Malformed;
-    }
-    if textfile::decode(line, 3, &mut sealed) != 16 {
-        return Verdict::Malformed;
-    }
-    judged(aes_agrees(key, plain, sealed))
-}
-
-fn aes_agrees(key: [u8; 16], plain: [u8; 16], sealed: [u8; 16]) -> bool {
-    if !same16(cipher::encrypt_aes128_block(plain, key), sealed) {
-        return false;
-    }
-    same16(cipher::decrypt_aes128_block(sealed, key), plain)
+fn aes(fields: &Fields) -> Result<bool, FieldError> {
+    let key = fields.array(0)?;
+    fields.array::<0>(1)?;
+    let plain = fields.array(2)?;
+    let sealed = fields.array(3)?;
+    Ok(
+        same(&cipher::encrypt_aes128_block(plain, key), &sealed)
+            && same(&cipher::decrypt_aes128_block(sealed, key), &plain),
+    )
 }
 
 // Triple DES under one key is DES, so these vectors are run through it too.
-fn des(line: &[u8]) -> Verdict {
-    let mut key = [0u8; 8];
-    let mut plain = [0u8; 8];
-    let mut sealed = [0u8; 8];
-    if textfile::decode(line, 0, &mut key) != 8 {
-        return Verdict::Malformed;
-    }
-    if !textfile::is_none(textfile::field(line, 1)) {
-        return Verdict::Malformed;
-    }
-    if textfile::decode(line, 2, &mut plain) != 8 {
-        return Verdict::Malformed;
-    }
-    if textfile::decode(line, 3, &mut sealed) != 8 {
-        return Verdict::Malformed;
-    }
-    if !des_agrees(key, plain, sealed) {
-        return Verdict::Differs;
-    }
-    judged(tdes_agrees(key, key, plain, sealed))
+fn des(fields: &Fields) -> Result<bool, FieldError> {
+    let key = fields.array(0)?;
+    fields.array::<0>(1)?;
+    let plain = fields.array(2)?;
+    let sealed = fields.array(3)?;
+    Ok(
+        same(&cipher::encrypt_des_block(plain, key), &sealed)
+            && same(&cipher::decrypt_des_block(sealed, key), &plain)
+            && tdes_agrees(key, key, plain, sealed),
+    )
 }
 
-fn des_agrees(key: [u8; 8], plain: [u8; 8], sealed: [u8; 8]) -> bool {
-    if !same8(cipher::encrypt_des_block(plain, key), sealed) {
-        return false;
-    }
-    same8(cipher::decrypt_des_block(sealed, key), plain)
-}
-
-fn tdes(line: &[u8]) -> Verdict {
-    let mut key1 = [0u8; 8];
-    let mut key2 = [0u8; 8];
-    let mut plain = [0u8; 8];
-    let mut sealed = [0u8; 8];
-    if textfile::decode(line, 0, &mut key1) != 8 {
-        return Verdict::Malformed;
-    }
-    if textfile::decode(line, 1, &mut key2) != 8 {
-        return Verdict::Malformed;
-    }
-    if textfile::decode(line, 2, &mut plain) != 8 {
-        return Verdict::Malformed;
-    }
-    if textfile::decode(line, 3, &mut sealed) != 8 {
-        return Verdict::Malformed;
-    }
-    judged(tdes_agrees(key1, key2, plain, sealed))
+fn tdes(fields: &Fields) -> Result<bool, FieldError> {
+    let key1 = fields.array(0)?;
+    let key2 = fields.array(1)?;
+    let plain = fields.array(2)?;
+    let sealed = fields.array(3)?;
+    Ok(tdes_agrees(key1, key2, plain, sealed))
 }
 
 fn tdes_agrees(key1: [u8; 8], key2: [u8; 8], plain: [u8; 8], sealed: [u8; 8]) -> bool {
-    if !same8(cipher::encrypt_3des_block(plain, key1, key2), sealed) {
-        return false;
-    }
-    same8(cipher::decrypt_3des_block(sealed, key1, key2), plain)
+    same(&cipher::encrypt_3des_block(plain, key1, key2), &sealed)
+        && same(&cipher::decrypt_3des_block(sealed, key1, key2), &plain)
 }
 
-fn cbc(line: &[u8]) -> Verdict {
-    let mut key = [0u8; 8];
-    let mut iv = [0u8; 8];
-    let mut plain = [0u8; 256];
-    let mut sealed = [0u8; 256];
-    if textfile::decode(line, 0, &mut key) != 8 {
-        return Verdict::Malformed;
+// The plaintext and the ciphertext of fields 2 and 3, which are equally long.
+fn messages(fields: &Fields) -> Result<(Vec<u8>, Vec<u8>), FieldError> {
+    let plain = fields.bytes(2)?;
+    let sealed = fields.bytes(3)?;
+    if plain.len() != sealed.len() {
+        return Err(FieldError::Malformed);
     }
-    if textfile::decode(line, 1, &mut iv) != 8 {
-        return Verdict::Malformed;
-    }
-    let n = textfile::decode(line, 2, &mut plain);
-    let m = textfile::decode(line, 3, &mut sealed);
-    if n > 256 {
-        return Verdict::Malformed;
-    }
-    if n != m {
-        return Verdict::Malformed;
-    }
-    let mut there = plain;
-    if !cbc_encrypts(&mut there[0..n], &sealed[0..n], key, iv) {
-        return Verdict::Differs;
-    }
-    let mut back = sealed;
-    judged(cbc_decrypts(&mut back[0..n], &plain[0..n], key, iv))
+    Ok((plain, sealed))
 }
 
-// The library's CBC starts from a zero iv, so the vector's goes into the first block before it.
-fn cbc_encrypts(work: &mut [u8], sealed: &[u8], key: [u8; 8], iv: [u8; 8]) -> bool {
-    xor_front(work, iv);
-    if !cipher::encrypt_des_cbc_zero_iv(work, key) {
-        return false;
-    }
-    same(work, sealed)
-}
-
-// Likewise after it.
-fn cbc_decrypts(work: &mut [u8], plain: &[u8], key: [u8; 8], iv: [u8; 8]) -> bool {
-    if !cipher::decrypt_des_cbc_zero_iv(work, key) {
-        return false;
-    }
-    xor_front(work, iv);
-    same(work, plain)
+// The library's CBC starts from a zero iv, so the vector's goes into the first block before it, and likewise after it.
+fn cbc(fields: &Fields) -> Result<bool, FieldError> {
+    let key = fields.array(0)?;
+    let iv = fields.array(1)?;
+    let (plain, mut back) = messages(fields)?;
+    let mut there = plain.clone()?;
+    xor_front(&mut there, iv);
+    let is_there = cipher::encrypt_des_cbc_zero_iv(&mut there, key).is_ok() && same(&there, &back);
+    let is_back = cipher::decrypt_des_cbc_zero_iv(&mut back, key).is_ok();
+    xor_front(&mut back, iv);
+    Ok(is_there && is_back && same(&back, &plain))
 }
 
 // Xors the iv into the first block of a text, if it has one.
 fn xor_front(text: &mut [u8], iv: [u8; 8]) {
-    if text.len() < 8 {
-        return;
-    }
-    let mut i = 0;
-    while i < 8 {
-        text[i] = text[i] ^ iv[i];
-        i += 1;
+    for (byte, mask) in text.iter_mut().zip(iv.iter()) {
+        *byte ^= *mask;
     }
 }
 
-fn ofb(line: &[u8]) -> Verdict {
-    let mut key = [0u8; 16];
-    let mut iv = [0u8; 16];
-    let mut plain = [0u8; 256];
-    let mut sealed = [0u8; 256];
-    if textfile::decode(line, 0, &mut key) != 16 {
-        return Verdict::Malformed;
-    }
-    if textfile::decode(line, 1, &mut iv) != 16 {
-        return Verdict::Malformed;
-    }
-    let n = textfile::decode(line, 2, &mut plain);
-    let m = textfile::decode(line, 3, &mut sealed);
-    if n > 256 {
-        return Verdict::Malformed;
-    }
-    if n != m {
-        return Verdict::Malformed;
-    }
-    let mut there = plain;
-    if !ofb_turns(&mut there[0..n], &sealed[0..n], key, iv) {
-        return Verdict::Differs;
-    }
-    let mut back = sealed;
-    judged(ofb_turns(&mut back[0..n], &plain[0..n], key, iv))
+fn ofb(fields: &Fields) -> Result<bool, FieldError> {
+    let key = fields.array(0)?;
+    let iv = fields.array(1)?;
+    let (plain, mut back) = messages(fields)?;
+    let mut there = plain.clone()?;
+    cipher::apply_aes128_ofb(&mut there, key, iv);
+    let is_there = same(&there, &back);
+    cipher::apply_aes128_ofb(&mut back, key, iv);
+    Ok(is_there && same(&back, &plain))
 }
 
-fn ofb_turns(work: &mut [u8], other: &[u8], key: [u8; 16], iv: [u8; 16]) -> bool {
-    cipher::apply_aes128_ofb(work, key, iv);
-    same(work, other)
-}
-
-fn cmac(line: &[u8]) -> Verdict {
-    let mut key = [0u8; 16];
-    let mut message = [0u8; 256];
-    let mut mac = [0u8; 16];
-    if textfile::decode(line, 0, &mut key) != 16 {
-        return Verdict::Malformed;
-    }
-    if !textfile::is_none(textfile::field(line, 1)) {
-        return Verdict::Malformed;
-    }
-    let n = textfile::decode(line, 2, &mut message);
-    if n > 256 {
-        return Verdict::Malformed;
-    }
-    if textfile::decode(line, 3, &mut mac) != 16 {
-        return Verdict::Malformed;
-    }
-    judged(same16(cipher::aes128_cmac(&message[0..n], key), mac))
+fn cmac(fields: &Fields) -> Result<bool, FieldError> {
+    let key = fields.array(0)?;
+    fields.array::<0>(1)?;
+    let message = fields.bytes(2)?;
+    let mac: [u8; 16] = fields.array(3)?;
+    Ok(same(&cipher::aes128_cmac(&message, key), &mac))
 }

@@ -1,9 +1,9 @@
--- From no document: the words that the DES code works with, the bits that they stand for, and the rules of its two tables. Assumes nothing.
-use Rattle.std.specs.Prelude.{ℕ, ◌+◌, ◌-◌, ◌*◌, ◌/◌, ◌%◌, ◌^◌, ◌<◌, ◌≡◌, Bool, false, List, [], ◌∷◌, ◌++◌, length, take, drop, get_or, replicate}
+-- Of this crate alone: the words that the DES code works with, the bits that they stand for, and the rules of its two tables. Assumes nothing.
+use Rattle.std.specs.Prelude.{ℕ, ◌+◌, ◌-◌, ◌*◌, ◌/◌, ◌%◌, ◌^◌, Bool, false, List, [], ◌∷◌, ◌++◌, take, drop, get_or, replicate}
 use Rattle.std.specs.Int.Bits.{bit_and, bit_xor}
-use Rattle.cipher.specs.Bits.{bits, num}
+use Rattle.cipher.specs.Bits.{bits}
 use Rattle.cipher.specs.Bytes.{tab}
-use Rattle.cipher.specs.Fips46.{select, left_shift, substitute, P, PC2, S1, S2, S3, S4, S5, S6, S7, S8}
+use Rattle.cipher.specs.Fips46.{Halves, select, left_shift, substitute, P, PC2, S1, S2, S3, S4, S5, S6, S7, S8}
 
 -- b after `before` clear bits and before `behind` more
 unfoldable pub among : ℕ → ℕ → List Bool → List Bool
@@ -27,6 +27,10 @@ transposed = tab 64 (λ i. i % 8 * 8 + i / 8 + 1)
 unfoldable pub held : ℕ → List Bool
 held x = left_shift 31 (bits 32 x)
 
+-- the halves that two words hold
+abbrev pub holds : ℕ → ℕ → Halves
+holds l r = record { L = held l; R = held r }
+
 -- the 48 bits of a packed round key: the six low bits of each byte, where the bytes are the groups 1, 3, 5, 7, 2, 4, 6, 8, highest first
 unfoldable pub key_bits : ℕ → List Bool
 key_bits k =
@@ -41,10 +45,6 @@ box j = get_or (S1 ∷ S2 ∷ S3 ∷ S4 ∷ S5 ∷ S6 ∷ S7 ∷ S8 ∷ []) j []
 unfoldable pub sp_bits : ℕ → ℕ → List Bool
 sp_bits j x = left_shift 1 (select P (among (4 * j) (28 - 4 * j) (substitute (box j) (bits 6 x))))
 
-pub record SpTable (t : List ℕ) : Type 0 where
-  pub long : length t ≡ 512
-  pub entry : (i : ℕ) → i < 512 → get_or t i 0 ≡ num (sp_bits (i / 64) (i % 64))
-
 -- ---- the table of PC-2: entry 128 m + x is the part that the bits x, as the m-th seven bits of C and D, have in a half of a round key
 
 -- the places of four groups of six bits in a word: 2, 4, 1, 3, each after two clear bits (57 is past the bits of C and D)
@@ -58,7 +58,3 @@ places m = packed_places (take 24 (drop (m / 4 * 24) PC2))
 
 unfoldable pub pc2_bits : ℕ → ℕ → List Bool
 pc2_bits m x = select (places m) (among (7 * m) (49 - 7 * m) (bits 7 x))
-
-pub record Pc2Table (t : List ℕ) : Type 0 where
-  pub long : length t ≡ 1024
-  pub entry : (i : ℕ) → i < 1024 → get_or t i 0 ≡ num (pc2_bits (i / 128) (i % 128))

@@ -1,45 +1,48 @@
--- From no document: what the steps of a derivation answer. Assumes nothing.
-use Rattle.std.specs.Prelude.{ℕ, ◌≤◌, ◌≡◌, List, ◌∷◌, ◌++◌, eqb, length, take}
+-- What the steps of a derivation answer. Assumes nothing.
+use Rattle.std.specs.Prelude.{ℕ, ◌≡◌, List, [], Option, None, Some, Result, MatchResult, take}
+use Rattle.std.specs.Iterator.{AlwaysYields}
 use Rattle.cipher.specs.Fips46.{des_encrypt}
 use Rattle.cipher.specs.Fold.{under_each}
-use Rattle.answer.specs.Outcome.{choose}
+use Rattle.answer.specs.Outcome.{Row, first_of}
+use Rattle.answer.specs.Refusal.{refusal_number, refusal_node}
+use Rattle.answer.specs.Scheme.{mark_of}
+use Rattle.answer.specs.declared.refusal.Refusal.{Refusal}
+use Rattle.answer.specs.declared.scheme.Scheme.{Scheme}
 use Rattle.session.specs.Entries.{Entry}
-use Rattle.session.specs.Derivation.{Derived, turned_down, derived, DES, system, needing, key_of, keys_of, derived_by, derived_for}
-use Rattle.session.specs.declared.keys.Choice.{Choice}
-use Rattle.session.specs.declared.keys.DerivedAuthKeys.{DerivedAuthKeys}
-use Rattle.session.specs.declared.keys.Gathered.{Gathered}
+use Rattle.session.specs.Derivation.{Derived, turned_down, DES, needing, keys_of, derived_by, derived_for}
 
--- r is a refusal
-pub record Refuses (number node : ℕ) (r : DerivedAuthKeys) : Type 0 where
-  pub number_is : r.answer.number ≡ number
-  pub node_is : r.node ≡ node
-  pub scheme_none : r.scheme ≡ 0
-  pub length_none : r.answer.length ≡ 0
-  pub transaction_none : r.answer.transaction_number ≡ 0
+-- the refusal e of a derivation
+unfoldable pub refusing : Refusal → Derived
+refusing e = turned_down (refusal_number e) (refusal_node e)
 
--- r names the scheme by which a derivation goes on, or refuses it
-pub record Chooses (mark : ℕ) (es : List Entry) (areas services : List ℕ) (r : Choice) : Type 0 where
-  pub goes : (individual : List ℕ)
-      → derived_for mark es areas services individual ≡ choose (eqb r.number 0) (derived_by r.scheme es areas services individual) (turned_down r.number r.node)
+-- r is what the rows say: the first that holds, which names no node, or none
+abbrev pub Guards : List Row → Result (Unit {0}) Refusal → Type 0
+Guards rows r = MatchResult r (λ _. first_of rows ≡ 0) (λ e. (first_of rows ≡ refusal_number e) × (refusal_node e ≡ 0))
 
--- ---- the keys of nodes, gathered
+-- the bytes of an individual key; none where it is absent
+abbrev pub bytes_of : Option (List ℕ) → List ℕ
+bytes_of None = []
+bytes_of (Some k) = k
 
--- the refusal of the first of the nodes that lacks its key, else 0
-unfoldable pub missing : List Entry → ℕ → List ℕ → Derived
-missing es algorithm ns = needing es algorithm ns (turned_down 0 0)
+-- the mark of a scheme that is forced; 0 where none is
+abbrev pub forced_mark : Option Scheme → ℕ
+forced_mark None = 0
+forced_mark (Some s) = mark_of s
 
--- g says whether one of the nodes ns lacks its key; where none does, their keys are the front of w
-pub record Holds (es : List Entry) (algorithm : ℕ) (ns : List ℕ) (g : Gathered) (w : List ℕ) : Type 0 where
-  pub number : g.number ≡ (missing es algorithm ns).number
-  pub node : g.node ≡ (missing es algorithm ns).node
-  pub within : g.size ≤ length w
-  pub bytes : g.number ≡ 0 → take g.size w ≡ keys_of es algorithm ns
+-- r is the scheme by which a derivation goes on, or its refusal
+abbrev pub Chooses : ℕ → List Entry → List ℕ → List ℕ → Result Scheme Refusal → Type 0
+Chooses mark es areas services r = MatchResult r
+    (λ s. (individual : List ℕ) → derived_for mark es areas services individual ≡ derived_by (mark_of s) es areas services individual)
+    (λ e. (individual : List ℕ) → derived_for mark es areas services individual ≡ refusing e)
 
--- group key and user key of gathered keys
-unfoldable pub chain_des : List ℕ → List ℕ → List ℕ → List ℕ
-chain_des system areaKeys serviceKeys = under_each des_encrypt 8 areaKeys system ++ under_each des_encrypt 8 serviceKeys (under_each des_encrypt 8 areaKeys system)
+-- an iterator s gives the nodes ns, and then no more
+pub record Lists {S : Type 0} (steps : S → Option ℕ → S → Type 0) (s : S) (ns : List ℕ) : Type 0 where
+  pub runs : AlwaysYields steps (λ x. x) s ns
 
--- 4 or 5 for the system, areas and services that bear a key, else the chain
-unfoldable pub bearing_des : List Entry → List ℕ → List ℕ → Derived
-bearing_des es areas services =
-    needing es DES (system ∷ (areas ++ services)) (derived DES (chain_des (key_of es DES system) (keys_of es DES areas) (keys_of es DES services)))
+-- the keys of the nodes ns are the first bytes of w, r of them; or the first of the nodes that lacks its key refuses
+abbrev pub Gathers : List Entry → ℕ → List ℕ → Result ℕ Refusal → List ℕ → Type 0
+Gathers es algorithm ns r w = MatchResult r (λ size. ((d : Derived) → needing es algorithm ns d ≡ d) × (take size w ≡ keys_of es algorithm ns)) (λ e. (d : Derived) → needing es algorithm ns d ≡ refusing e)
+
+-- r is the block under the DES keys of the nodes ns, or such a refusal
+abbrev pub Chains : List Entry → List ℕ → List ℕ → Result (List ℕ) Refusal → Type 0
+Chains es ns block r = MatchResult r (λ b. ((d : Derived) → needing es DES ns d ≡ d) × (b ≡ under_each des_encrypt 8 (keys_of es DES ns) block)) (λ e. (d : Derived) → needing es DES ns d ≡ refusing e)

@@ -6,5 +6,4 @@ use Rattle.cipher.proofs.aes.decrypt_aes128_block.Goals as goal
 
 pub returns : goal.returns
 unfolding aes_decrypt
-returns c =
-    c.decrypt_with.ensures ∙ ap (λ (w : List ℕ). inv_cipher w c.args.«data») c.expand-w.ensures
+returns c = c.decrypt_block.ensures ∙ ap (λ (w : List ℕ). inv_cipher w c.args.«data») c.new.ensures

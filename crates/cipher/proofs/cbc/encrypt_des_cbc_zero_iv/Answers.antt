@@ -1,16 +1,46 @@
-use mathlib.Core.Path.{◌∙◌}
+use mathlib.Core.Path.{refl, ◌∙◌}
+use native.Mathlib.Omega.{arith}
+use lib.Dec.{lit<}
 use lib.ListN.{replicate}
+use Rattle.cipher.specs.inner.DesWith.{des_with}
 use Rattle.cipher.specs.Fips46.{des_encrypt}
 use Rattle.cipher.specs.Sp80038a.{cbc_encrypt}
+use Rattle.cipher.proofs.Chains.{run_start, run_done}
 use Rattle.cipher.proofs.DesWiths.{with_schedule}
-use Rattle.cipher.proofs.Modes.{on_whole_lem, off_whole}
+use Rattle.cipher.proofs.Modes.{cbc_turn, on_whole_lem, off_whole}
 use Rattle.cipher.proofs.cbc.encrypt_des_cbc_zero_iv.Goals as goal
 
 pub returns-then-data-ne0 : goal.returns-then-data-ne0
-returns-then-data-ne0 c = off_whole 8 _ _ c.if-data-ne0.true
+returns-then-data-ne0 c = let w = off_whole 8 _ _ c.if-data-ne0.true in record { ok = w.0; after = w.1 }
 
-pub returns : goal.returns
-returns c =
+pub loop-at-init : goal.loop-at-init
+loop-at-init c = record { boundary = refl; run = run_start _ _ 8 _ _ }
+
+pub loop-at-preserved : goal.loop-at-preserved
+loop-at-preserved c =
+    let v = c.loop-at.invariant in
+    let e = v.run.same in
+    record {
+      boundary = omega arith;
+      run = cbc_turn (des_with c.new-keys.result.keys) 8 (lit< tt) (omega arith) _ _ _ _ c.load-plain.ensures (omega arith) c.store.ensures c.xor_blocks.ensures c.encrypt-output.ensures v.run;
+    }
+
+pub returns-else-data-ne0 : goal.returns-else-data-ne0
+unfolding cbc_encrypt
+returns-else-data-ne0 c =
+    let v = c.loop-at.invariant in
     let a = c.args in
     let w = on_whole_lem 8 (cbc_encrypt (des_encrypt a.key) 8 (replicate 8 0)) a.«data».now c.if-data-ne0.false in
-    (w.0, c.encrypt_blocks.ensures ∙ rw (with_schedule _ _ c.schedule-ks.ensures) w.1)
+    record { ok = w.0; after = run_done _ _ 8 (lit< tt) v.run (omega arith) ∙ rw (with_schedule _ _ c.new-keys.ensures) w.1 }
+
+-- the next step would leave the range
+pub returns-else-data-ne0-2 : goal.returns-else-data-ne0-2
+unfolding cbc_encrypt
+returns-else-data-ne0-2 c =
+    let v = c.loop-at.invariant in
+    let e = v.run.same in
+    let a = c.args in
+    let next = cbc_turn (des_with c.new-keys.result.keys) 8 (lit< tt) (omega arith) _ _ _ _ c.load-plain.ensures (omega arith) c.store.ensures c.xor_blocks.ensures c.encrypt-output.ensures v.run in
+    let f = next.same in
+    let w = on_whole_lem 8 (cbc_encrypt (des_encrypt a.key) 8 (replicate 8 0)) a.«data».now c.if-data-ne0.false in
+    record { ok = w.0; after = run_done _ _ 8 (lit< tt) next (omega arith) ∙ rw (with_schedule _ _ c.new-keys.ensures) w.1 }

@@ -9,4 +9,4 @@ pub returns : goal.returns
 unfolding aes_encrypt cmac
 returns c =
     let a = c.args in
-    c.mac_from.ensures ∙ ap (λ (w : List ℕ). cmac (cipher w) 16 R128 a.«data».now) c.expand-w.ensures
+    c.mac_from.ensures ∙ ap (λ (w : List ℕ). cmac (cipher w) 16 R128 a.«data».now) c.new-keys.ensures

@@ -1,11 +1,10 @@
-use mathlib.Core.Path.{◌∙◌, ap, ap₂}
-use mathlib.Core.List.{[], ◌∷◌, ◌++◌}
-use Prim.Native.Nat.{ℕ}
-use lib.ListN.{replicate}
-use Rattle.cipher.specs.Bytes.{◌⊕◌}
-use Rattle.cipher.specs.Sp80038b.{double}
+-- `double` meets its contract, by arithmetic on the number that the block is. Assumes nothing.
+use mathlib.Core.Path.{ap, ◌∙◌}
+use Rattle.cipher.specs.Sp80038b.{double, R128}
+use Rattle.cipher.proofs.Subkeys.{be_bytes_16, next_subkey}
 use Rattle.cipher.proofs.cmac.double.Goals as goal
 
 pub returns : goal.returns
-unfolding double
-returns c = c.xor_blocks16.ensures ∙ ap₂ ◌⊕◌ c.shift_left.ensures (c.last_byte.ensures ∙ ap (λ (b : ℕ). replicate 15 0 ++ (b ∷ [])) c.carry-low.ensures)
+returns c =
+    let n = c.from_be_bytes-n in
+    c.to_be_bytes.ensures ∙ next_subkey n.result n.type_inv ∙ ap (double 16 R128) (be_bytes_16 c.args.x.now n.result c.told-x c.fits-x n.ensures)

@@ -1,7 +1,12 @@
-use Rattle.cipher.proofs.Macs.{tail_padded}
+use Prim.Native.Nat.{◌≤◌}
+use native.Mathlib.Omega.{arith}
+use lib.ListN.{length}
+use lib.Seq.{take_all}
+use Rattle.cipher.proofs.Macs.{padded_is}
 use Rattle.cipher.proofs.cmac.padded.Goals as goal
 
 pub returns : goal.returns
 returns c =
-    let a = c.args in
-    tail_padded a.s.now _ a.at 16 c.requires.at_in_bounds c.requires.s_len_bound c.copy.ensures
+    let s = c.args.s.now in
+    let k : length s ≤ 16 = omega arith in
+    padded_is 16 s _ c.requires (rw (take_all 16 s k) at c.copy.ensures)

@@ -1,10 +1,9 @@
--- `des::decrypt_3des_block` meets its contract: the three blocks, from what the calls ensure. Assumes nothing.
-use Rattle.cipher.proofs.DesRounds.{encrypted, decrypted, tdea2_decrypted}
+use Rattle.cipher.proofs.DesRounds.{tdea2_decrypted}
+use Rattle.cipher.proofs.DesWiths.{with_schedule, back_with_schedule}
 use Rattle.cipher.proofs.des.decrypt_3des_block.Goals as goal
 
 pub returns : goal.returns
 returns c =
-    let s2 = c.schedule-ks2 in
-    let s1 = c.schedule-ks1 in
-    tdea2_decrypted _ _ _ _ _ _ (decrypted _ _ _ _ s1.ensures c.decrypt_with-once.ensures)
-    (encrypted _ _ _ _ s2.ensures c.encrypt_with-twice.ensures) (decrypted _ _ _ _ s1.ensures c.decrypt_with.ensures)
+    let first = back_with_schedule _ _ c.new-first.ensures in
+    let second = with_schedule _ _ c.new-second.ensures in
+    tdea2_decrypted _ _ _ _ _ _ (rw first at c.decrypt.ensures) (rw second at c.encrypt.ensures) (rw first at c.decrypt-2.ensures)

@@ -1,41 +1,26 @@
-use mathlib.Core.Path.{◌≡◌, refl, ap, ◌∙◌}
-use Prim.Native.Nat.{ℕ, ◌+◌, ◌/◌}
 use native.Mathlib.Omega.{arith}
-use lib.Dec.{lit<}
-use lib.ListN.{length}
-use Rattle.cipher.specs.Bytes.{words_bytes}
-use Rattle.cipher.specs.Fips197.{cipher}
-use Rattle.cipher.specs.Sp80038a.{blocks, ofb, ofb_input}
-use Rattle.cipher.proofs.Chains.{run_start, run_done}
-use Rattle.cipher.proofs.Modes.{ofb_turn, input_turn}
+use Rattle.cipher.proofs.Modes.{ofb_start, ofb_step, ofb_done}
 use Rattle.cipher.proofs.ofb.apply.Goals as goal
 
 pub loop-at-init : goal.loop-at-init
-unfolding ofb_input
-loop-at-init c = (run_start _ _ 16 _ _, refl, omega arith, refl)
-
-pub overflow_add-at : goal.overflow_add-at
-overflow_add-at c = let e = c.loop-at.invariant.0.same in omega arith
-
-pub loop-at-smaller : goal.loop-at-smaller
-loop-at-smaller c = let e = c.loop-at.invariant.0.same in omega arith
+loop-at-init c = ofb_start _ _ _
 
 pub loop-at-preserved : goal.loop-at-preserved
 loop-at-preserved c =
-    let v = c.loop-at.invariant in
-    let e = v.0.same in
-    let CIPH = cipher (words_bytes c.args.w.now) in (
-      ofb_turn CIPH 16 (lit< tt) _ _ (omega arith) c.encrypt_with-output.ensures (omega arith) c.add_at.ensures v.0,
-      omega arith,
-      omega arith,
-      input_turn CIPH 16 (lit< tt) _ _ _ c.loop-at.at v.3 c.encrypt_with-output.ensures,
-    )
+    let same = c.loop-at.invariant.run.same in
+    ofb_step _ _ _ c.loop-at.invariant _ _ (omega arith) c.encrypt_block-output.ensures (omega arith) c.add_at.ensures
 
 pub returns : goal.returns
-unfolding ofb blocks
 returns c =
-    let v = c.loop-at.invariant in
-    let e = v.0.same in
-    let a = c.args in
-    let n : c.loop-at.at / 16 ≡ (length a.«data».now + 15) / 16 = omega arith in
-    record { data_after = run_done _ _ 16 (lit< tt) v.0 (omega arith); next_input = v.3 ∙ ap (λ (k : ℕ). ofb_input (cipher (words_bytes a.w.now)) 16 k a.iv) n }
+    let same = c.loop-at.invariant.run.same in
+    let done = ofb_done _ _ _ c.loop-at.invariant (omega arith) in
+    record { data_after = done.0; next_input = done.1 }
+
+-- the next step would leave the range
+pub returns-2 : goal.returns-2
+returns-2 c =
+    let same = c.loop-at.invariant.run.same in
+    let next = ofb_step _ _ _ c.loop-at.invariant _ _ (omega arith) c.encrypt_block-output.ensures (omega arith) c.add_at.ensures in
+    let same' = next.run.same in
+    let done = ofb_done _ _ _ next (omega arith) in
+    record { data_after = done.0; next_input = done.1 }

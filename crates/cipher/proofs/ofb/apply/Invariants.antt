@@ -1,17 +1,11 @@
-use mathlib.Core.Path.{◌≡◌}
-use Prim.Native.Nat.{◌+◌, ◌-◌, ◌/◌, ◌%◌, ◌<◌}
+use Prim.Native.Nat.{◌-◌}
 use lib.ListN.{length}
-use Rattle.cipher.specs.Bytes.{words_bytes}
 use Rattle.cipher.specs.Fips197.{cipher}
-use Rattle.cipher.specs.Sp80038a.{ofb_out, ofb_next, ofb_input}
-use Rattle.cipher.proofs.Chains.{Run}
+use Rattle.cipher.proofs.Modes.{OfbAt}
 use Rattle.cipher.proofs.ofb.apply.Given as goal
 
--- the blocks before `at` are done, and `input` is the next input block
 abbrev pub invariant-loop-at : goal.invariant-loop-at
-invariant-loop-at l =
-    Run (ofb_out (cipher (words_bytes l.w)) 16) (ofb_next (cipher (words_bytes l.w)) 16) 16 l.initial.input l.initial.data l.input l.data l.at
-    × (l.at % 16 ≡ 0) × (l.at < length l.initial.data + 16) × (l.input ≡ ofb_input (cipher (words_bytes l.w)) 16 (l.at / 16) l.initial.input)
+invariant-loop-at l = OfbAt (cipher l.keys) l.fn.iv l.initial.data l.input l.data l.at
 
 abbrev pub decreases-loop-at : goal.decreases-loop-at
 decreases-loop-at l = length l.initial.data - l.at

@@ -9,4 +9,4 @@ pub returns : goal.returns
 unfolding aes_encrypt
 returns c =
     let a = c.args in
-    c.apply.ensures.data_after ∙ ap (λ (w : List ℕ). ofb (cipher w) 16 a.iv a.«data».now) c.expand-w.ensures
+    c.apply.ensures.data_after ∙ ap (λ (w : List ℕ). ofb (cipher w) 16 a.iv a.«data».now) c.new-keys.ensures

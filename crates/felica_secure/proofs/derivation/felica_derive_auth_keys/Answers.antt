@@ -1,5 +1,9 @@
+use mathlib.Core.Path.{◌∙◌}
 use Rattle.felica_secure.proofs.PackedParts.{derives_returns}
 use Rattle.felica_secure.proofs.derivation.felica_derive_auth_keys.Goals as goal
 
-pub returns : goal.returns
-returns c = derives_returns _ _ _ _ _ c.derive_auth_keys-derived.ensures c.pack_all.ensures
+pub returns-in-Ok : goal.returns-in-Ok
+returns-in-Ok c = derives_returns _ _ _ _ _ c.derive_auth_keys.ensures (rw c.in-Ok.is (c.pack_all.ensures ∙ rw c.mark.ensures))
+
+pub returns-in-Err : goal.returns-in-Err
+returns-in-Err c = derives_returns _ _ _ _ _ c.derive_auth_keys.ensures (rw c.in-Err.is (c.pack_all-in-Err.ensures ∙ rw (c.number.ensures, c.node.ensures)))

@@ -1,26 +1,19 @@
-use mathlib.Core.Path.{refl, sym, ◌∙◌}
-use Rattle.session.proofs.Encoding.{session_size}
-use Rattle.felica_secure.proofs.KeptStates.{no_keeps, keeps}
-use Rattle.felica_secure.specs.Calls.{answering}
-use Rattle.felica_secure.specs.SessionCalls.{kept_session, call_receive}
+use mathlib.Core.Path.{refl, ◌∙◌}
 use lib.ListN.{length}
+use Rattle.felica_secure.specs.Calls.{answering}
+use Rattle.session.proofs.Encoding.{session_size}
+use Rattle.felica_secure.specs.SessionCalls.{call_receive}
+use Rattle.felica_secure.proofs.LoadedSessions.{unkept, kept}
 use Rattle.felica_secure.proofs.sessions.felica_session_apply_response.Goals as goal
 
-pub returns-then-not-is_session : goal.returns-then-not-is_session
-returns-then-not-is_session c = no_keeps kept_session _ _ _ (sym c.is_session.ensures ∙ c.if-not-is_session.true) refl _
-
-pub load-requires : goal.load-requires
-load-requires c = session_size _ (sym c.is_session.ensures ∙ c.if-not-is_session.false)
-
 pub store-requires : goal.store-requires
-store-requires c =
-    session_size _ (sym c.is_session.ensures ∙ c.if-not-is_session.false)
+store-requires c = session_size _ c.in-Ok.ensures.0
 
-pub returns : goal.returns
+pub returns-in-Ok : goal.returns-in-Ok
 unfolding call_receive answering
-returns c =
-    let a = c.args in
-    let r = c.apply_response-received.ensures in
-    let m = r.answer in
-    keeps kept_session (call_receive a.code a.«data».now (length a.out.now)) _ _ (sym c.is_session.ensures ∙ c.if-not-is_session.false) c.load.result c.load.ensures a.out.now _
-    (c.pack.ensures ∙ rw (m.number, m.length_is, m.transaction)) m.output _ _ r.session c.store.ensures
+returns-in-Ok c =
+    let m = c.apply_response-answer.ensures in
+    kept (call_receive c.args.code c.args.«data».now (length c.args.out.now)) _ c.in-Ok.context c.in-Ok.ensures c.args.out.now _ (c.pack.ensures ∙ rw (m.answer.number, m.answer.length_is, m.answer.transaction)) m.answer.output _ _ m.session c.store.ensures
+
+pub returns-in-Err : goal.returns-in-Err
+returns-in-Err c = unkept (call_receive c.args.code c.args.«data».now (length c.args.out.now)) _ c.in-Err.refusal c.in-Err.ensures c.pack-in-Err.ensures c.args.out.now

@@ -1,21 +1,15 @@
+use mathlib.Core.Path.{◌∙◌}
 use lib.ListN.{length}
-use mathlib.Core.Path.{refl, sym, ◌∙◌}
-use Rattle.session.proofs.Encoding.{session_size}
-use Rattle.felica_secure.proofs.KeptStates.{no_tells, tells}
 use Rattle.felica_secure.specs.Calls.{answering}
-use Rattle.felica_secure.specs.SessionCalls.{kept_session, call_seal}
+use Rattle.felica_secure.specs.SessionCalls.{call_seal}
+use Rattle.felica_secure.proofs.LoadedSessions.{untold, told}
 use Rattle.felica_secure.proofs.sessions.felica_session_encrypt_command.Goals as goal
 
-pub returns-then-not-is_session : goal.returns-then-not-is_session
-returns-then-not-is_session c = no_tells kept_session _ _ _ (sym c.is_session.ensures ∙ c.if-not-is_session.true) refl _
-
-pub load-requires : goal.load-requires
-load-requires c = session_size _ (sym c.is_session.ensures ∙ c.if-not-is_session.false)
-
-pub returns : goal.returns
+pub returns-in-Ok : goal.returns-in-Ok
 unfolding call_seal answering
-returns c =
-    let a = c.args in
+returns-in-Ok c =
     let m = c.encrypt_command.ensures in
-    tells kept_session (call_seal a.code a.payload.now (length a.out.now)) _ _ (sym c.is_session.ensures ∙ c.if-not-is_session.false) c.load.result c.load.ensures a.out.now _
-    (c.pack.ensures ∙ rw (m.number, m.length_is, m.transaction)) m.output
+    told (call_seal c.args.code c.args.payload.now (length c.args.out.now)) _ c.in-Ok.context c.in-Ok.ensures c.args.out.now _ (c.pack.ensures ∙ rw (m.number, m.length_is, m.transaction)) m.output
+
+pub returns-in-Err : goal.returns-in-Err
+returns-in-Err c = untold (call_seal c.args.code c.args.payload.now (length c.args.out.now)) _ c.in-Err.refusal c.in-Err.ensures c.pack-in-Err.ensures c.args.out.now

@@ -1,24 +1,18 @@
-use mathlib.Core.Path.{refl, sym, ◌∙◌}
-use Rattle.session.proofs.Encoding.{session_size}
-use Rattle.felica_secure.proofs.KeptStates.{no_tells, tells}
-use Rattle.felica_secure.specs.Calls.{answering}
-use Rattle.felica_secure.specs.SessionCalls.{kept_session, call_nodes}
+use mathlib.Core.Path.{◌∙◌}
 use native.Mathlib.Omega.{arith}
 use lib.ListN.{length}
-use native.Mathlib.Nat.{sub-zero}
+use Rattle.answer.proofs.Pieces.{no_longer}
 use Rattle.answer.proofs.Rows.{delivers_meets}
+use Rattle.felica_secure.specs.Calls.{answering}
+use Rattle.felica_secure.specs.SessionCalls.{call_nodes}
+use Rattle.felica_secure.proofs.LoadedSessions.{untold, told}
 use Rattle.felica_secure.proofs.sessions.felica_session_nodes.Goals as goal
 
-pub returns-then-not-is_session : goal.returns-then-not-is_session
-returns-then-not-is_session c = no_tells kept_session _ _ _ (sym c.is_session.ensures ∙ c.if-not-is_session.true) refl _
-
-pub load-kept-requires : goal.load-kept-requires
-load-kept-requires c = session_size _ (sym c.is_session.ensures ∙ c.if-not-is_session.false)
-
-pub returns : goal.returns
+pub returns-in-Ok : goal.returns-in-Ok
 unfolding call_nodes answering
-returns c =
-    let a = c.args in
-    let m = rw (sub-zero, c.listed-n.ensures.0, c.node_count.ensures, c.nodes-nodes.ensures) at (delivers_meets _ _ _ c.deliver.ensures (omega arith)) in
-    tells kept_session (call_nodes (length a.out.now)) _ _ (sym c.is_session.ensures ∙ c.if-not-is_session.false) c.load-kept.result c.load-kept.ensures a.out.now _
-    (c.pack.ensures ∙ rw (m.number, m.length_is, m.transaction)) m.output
+returns-in-Ok c =
+    let m = rw c.listed_nodes.ensures at (delivers_meets _ _ _ c.deliver.ensures (no_longer _ 65535 _ _ c.listed_nodes.ensures (omega arith))) in
+    told (call_nodes (length c.args.out.now)) _ c.in-Ok.context c.in-Ok.ensures c.args.out.now _ (c.pack.ensures ∙ rw (m.number, m.length_is, m.transaction)) m.output
+
+pub returns-in-Err : goal.returns-in-Err
+returns-in-Err c = untold (call_nodes (length c.args.out.now)) _ c.in-Err.refusal c.in-Err.ensures c.pack-in-Err.ensures c.args.out.now

@@ -1,19 +1,14 @@
-use mathlib.Core.Path.{refl, sym, ◌∙◌}
+use mathlib.Core.Path.{refl, ◌∙◌}
 use mathlib.Core.List.{[]}
 use Rattle.answer.specs.Outcome.{over}
-use Rattle.session.proofs.Encoding.{session_size}
-use Rattle.felica_secure.proofs.KeptStates.{no_tells, tells}
 use Rattle.felica_secure.specs.Calls.{telling}
-use Rattle.felica_secure.specs.SessionCalls.{kept_session, call_scheme}
+use Rattle.felica_secure.specs.SessionCalls.{call_scheme}
+use Rattle.felica_secure.proofs.LoadedSessions.{untold, told}
 use Rattle.felica_secure.proofs.sessions.felica_session_scheme.Goals as goal
 
-pub returns-then-not-is_session : goal.returns-then-not-is_session
-returns-then-not-is_session c = no_tells kept_session call_scheme _ _ (sym c.is_session.ensures ∙ c.if-not-is_session.true) refl []
-
-pub load-requires : goal.load-requires
-load-requires c = session_size _ (sym c.is_session.ensures ∙ c.if-not-is_session.false)
-
-pub returns : goal.returns
+pub returns-in-Ok : goal.returns-in-Ok
 unfolding call_scheme telling over
-returns c =
-    tells kept_session call_scheme _ _ (sym c.is_session.ensures ∙ c.if-not-is_session.false) c.load.result c.load.ensures [] [] (c.pack_all.ensures ∙ rw c.scheme.ensures) refl
+returns-in-Ok c = told call_scheme _ c.in-Ok.context c.in-Ok.ensures [] [] (c.pack_all.ensures ∙ rw c.scheme.ensures) refl
+
+pub returns-in-Err : goal.returns-in-Err
+returns-in-Err c = untold call_scheme _ c.in-Err.refusal c.in-Err.ensures c.pack.ensures []

@@ -5,8 +5,15 @@ use lib.ListN.{length, take}
 use Rattle.frame.specs.Padding.{pad}
 use Rattle.answer.proofs.Pieces.{placed_next}
 use Rattle.frame.proofs.DesSeals.{length_padded, sealed_front}
+use Rattle.frame.proofs.Fronts.{accepts_front}
+use Rattle.frame.proofs.Pads.{pad_count_whole}
 use borrow.Author.Rules.{rules}
 use Rattle.frame.proofs.des.seal_front.Goals as goal
+
+pub unwrap-requires : goal.unwrap-requires
+unwrap-requires c =
+    let len = c.args.len in
+    accepts_front 8 _ _ _ c.encrypt_des_cbc_zero_iv.ensures.ok (omega (arith, c.copy_from_slice.auto.self)) (rw c.pad_to_des_block_size-end.ensures.0 (omega (arith, pad_count_whole len)))
 
 pub returns : goal.returns
 returns c =
@@ -19,5 +26,5 @@ returns c =
     let es = c.pad_to_des_block_size-end.ensures.1 in
     let lm : length m ≡ 8 = omega arith in
     let e2 = placed_next (pad (take len o)) o s r (r + 8 - r) (length_padded c.args.code len r c.args.key o c.requires end) (omega arith) es m _ (omega arith) c.copy_from_slice.ensures.after in
-    let q = sealed_front c.args.code len r c.args.key o c.requires end s m _ _ es c.calculate_command_mac_des-mac.ensures lm e2 c.encrypt_des_cbc_zero_iv.ensures.1 c.encrypt_des_cbc_zero_iv.auto.data in
+    let q = sealed_front c.args.code len r c.args.key o c.requires end s m _ _ es c.calculate_command_mac_des-mac.ensures lm e2 c.encrypt_des_cbc_zero_iv.ensures.after c.encrypt_des_cbc_zero_iv.auto.data in
     (search rules, q.0, q.1)

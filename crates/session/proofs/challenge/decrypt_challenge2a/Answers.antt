@@ -1,19 +1,31 @@
-use lib.ListN.{length}
-use Rattle.session.specs.Challenge.{wrong_with_3c, under_beta_back, reading_2a}
-use Rattle.session.proofs.Challenges.{with_3c_lem, gives_refused, gives}
+use mathlib.Core.Path.{◌∙◌}
+use native.Mathlib.Omega.{arith}
+use lib.Dec.{lit≤}
+use borrow.Author.Rules.{rules}
+use Rattle.session.specs.Challenge.{reading_2a}
+use Rattle.session.proofs.Challenges.{wrong_3c, wrong_before_3c, right_3c, gives_refused, gives, des_size, aes_size, des_under_beta_back, aes_under_beta_back}
 use Rattle.session.proofs.challenge.decrypt_challenge2a.Goals as goal
 
-pub returns-then-is_wrong_with_3c : goal.returns-then-is_wrong_with_3c
+pub returns-in_err-challenge_3c : goal.returns-in_err-challenge_3c
 unfolding reading_2a
-returns-then-is_wrong_with_3c c =
-    let a = c.args in
-    gives_refused (wrong_with_3c a.scheme (length a.keys.now) (length a.idm.now) (length a.challenge_2a.now) (length a.challenge_3c.now)) _ _ _ _ _ c.is_wrong_with_3c.ensures c.if-is_wrong_with_3c.true c.refused.ensures
+returns-in_err-challenge_3c c =
+    let e = c.in_err-challenge_3c.ensures in
+    gives_refused _ _ _ _ (wrong_3c _ _ _ _ _ e.0) c.in_err-challenge_3c.field-0.0 _ (search rules) e.1
 
-pub under_beta_back-block-requires : goal.under_beta_back-block-requires
-under_beta_back-block-requires c = let p = with_3c_lem _ _ _ _ _ _ c.is_wrong_with_3c.ensures c.if-is_wrong_with_3c.false in record { not_wrong = p.0; challenge_3c_len = p.1 }
-
-pub returns : goal.returns
+pub returns-in_err-context : goal.returns-in_err-context
 unfolding reading_2a
-returns c =
-    let a = c.args in
-    gives (wrong_with_3c a.scheme (length a.keys.now) (length a.idm.now) (length a.challenge_2a.now) (length a.challenge_3c.now)) _ _ (under_beta_back a.scheme a.keys.now a.idm.now a.challenge_3c.now a.challenge_2a.now) _ _ c.is_wrong_with_3c.ensures _ _ c.if-is_wrong_with_3c.false c.under_beta_back-block.ensures c.give.ensures
+returns-in_err-context c =
+    let e = c.in_err-context.ensures in
+    gives_refused _ _ _ _ (wrong_before_3c _ _ _ _ _ e.0) c.in_err-context.field-0.0 _ (search rules) e.1
+
+pub returns-in-Des : goal.returns-in-Des
+unfolding reading_2a
+returns-in-Des c =
+    let p = c.in_ok-context.ensures in
+    gives _ _ _ _ (right_3c _ _ _ _ _ p.0 c.in_ok-challenge_3c.ensures.0) c.decrypt_challenge2a.result _ _ 8 (des_size _ _ _ _ _ p.1 _ _ c.in-Des.is) (omega (arith, c.decrypt_challenge2a.type_inv)) (lit≤ tt) (c.decrypt_challenge2a.ensures ∙ des_under_beta_back _ _ _ _ _ p.1 _ _ c.in-Des.is c.args.challenge_3c.now) c.deliver.ensures
+
+pub returns-in-Aes128 : goal.returns-in-Aes128
+unfolding reading_2a
+returns-in-Aes128 c =
+    let p = c.in_ok-context.ensures in
+    gives _ _ _ _ (right_3c _ _ _ _ _ p.0 c.in_ok-challenge_3c.ensures.0) c.decrypt_challenge2a-in-Aes128.result _ _ 16 (aes_size _ _ _ _ _ p.1 _ _ c.in-Aes128.is) (omega (arith, c.decrypt_challenge2a-in-Aes128.type_inv)) (lit≤ tt) (c.decrypt_challenge2a-in-Aes128.ensures ∙ aes_under_beta_back _ _ _ _ _ p.1 _ _ c.in-Aes128.is _ _ c.in_ok-challenge_3c.ensures.1) c.deliver-in-Aes128.ensures

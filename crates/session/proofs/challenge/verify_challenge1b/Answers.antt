@@ -1,34 +1,44 @@
-use mathlib.Core.Path.{sym, ap, ◌∙◌}
-use mathlib.Core.Bool.{Bool, not}
-use borrow.Author.Tests.{eq-eqb, ne_eqb}
-use lib.Dec.{eqb}
-use lib.ListN.{length}
-use Rattle.answer.specs.Tests.{isnt, either}
-use Rattle.session.specs.Challenge.{under_beta, block_size, wrong_with_3c, checking_1b}
-use Rattle.session.proofs.Challenges.{with_3c_lem, or_before, or_number, check_refused, checks}
+use borrow.Author.Rules.{rules}
+use Rattle.session.specs.Challenge.{checking_1b}
+use Rattle.session.proofs.Challenges.{wrong_3c, wrong_before_3c, right_3c, check_refused, checks, either_first, given_wrong, given_right, des_size, aes_size, des_under_beta, aes_under_beta}
 use Rattle.session.proofs.challenge.verify_challenge1b.Goals as goal
-use Rattle.session.proofs.challenge.verify_challenge1b.Goals.{then-wrong-via-then-wrong, then-wrong-via-else-wrong+then-challenge_1b-block_size}
 
-pub returns-then-wrong : goal.returns-then-wrong
+pub returns-in_err-challenge_3c : goal.returns-in_err-challenge_3c
 unfolding checking_1b
-returns-then-wrong c =
-    let e = c.is_wrong_with_3c-wrong.ensures in
-    let a = c.args in
-    let t : Bool = wrong_with_3c a.scheme (length a.keys.now) (length a.idm.now) (length a.random_1.now) (length a.challenge_3c.now) in
-    let bad : Bool = either t (isnt (eqb (length a.challenge_1b.now) (block_size a.scheme))) in
-    check_refused _ _ _ bad
-    (elim c.then-wrong.branch [
-      | then-wrong-via-then-wrong w ↦ sym (or_before t _ e _ w.if-wrong.true) ∙ w.if-wrong.true
-      | then-wrong-via-else-wrong+then-challenge_1b-block_size w ↦ sym (or_number t _ e _ _ _ w.if-wrong.false w.block_size.ensures) ∙ ap not (ne_eqb _ _ w.if-challenge_1b-block_size.true)
-    ]) c.refused.ensures
+returns-in_err-challenge_3c c =
+    let e = c.in_err-challenge_3c.ensures in
+    check_refused _ _ _ _ (either_first _ _ (wrong_3c _ _ _ _ _ e.0)) c.in_err-challenge_3c.field-0.0 (search rules) e.1
 
-pub is_challenge1b-requires : goal.is_challenge1b-requires
-is_challenge1b-requires c =
-    let p = with_3c_lem _ _ _ _ _ _ c.is_wrong_with_3c-wrong.ensures c.if-wrong.false in
-    record { challenge_1b_len = c.if-challenge_1b-block_size.false ∙ c.block_size.ensures; not_wrong = p.0; challenge_3c_len = p.1 }
-
-pub returns : goal.returns
+pub returns-in_err-context : goal.returns-in_err-context
 unfolding checking_1b
-returns c =
-    let a = c.args in
-    checks _ (under_beta a.scheme a.keys.now a.idm.now a.challenge_3c.now a.random_1.now) _ _ _ (sym (or_number (wrong_with_3c a.scheme (length a.keys.now) (length a.idm.now) (length a.random_1.now) (length a.challenge_3c.now)) _ c.is_wrong_with_3c-wrong.ensures _ _ _ c.if-wrong.false c.block_size.ensures) ∙ ap not (eq-eqb _ _ c.if-challenge_1b-block_size.false)) c.is_challenge1b.ensures c.accept.ensures
+returns-in_err-context c =
+    let e = c.in_err-context.ensures in
+    check_refused _ _ _ _ (either_first _ _ (wrong_before_3c _ _ _ _ _ e.0)) c.in_err-context.field-0.0 (search rules) e.1
+
+pub returns-in_err-challenge-in-Des : goal.returns-in_err-challenge-in-Des
+unfolding checking_1b
+returns-in_err-challenge-in-Des c =
+    let p = c.in_ok-context.ensures in
+    let e = c.in_err-challenge-in-Des.ensures in
+    check_refused _ _ _ _ (given_wrong _ _ _ 8 (des_size _ _ _ _ _ p.1 _ _ c.in-Des.is) e.0) c.in_err-challenge-in-Des.field-0.0 (search rules) e.1
+
+pub returns-in_ok-challenge-in-Des : goal.returns-in_ok-challenge-in-Des
+unfolding checking_1b
+returns-in_ok-challenge-in-Des c =
+    let p = c.in_ok-context.ensures in
+    let e = c.in_ok-challenge-in-Des.ensures in
+    checks _ _ _ _ (given_right _ _ _ 8 (des_size _ _ _ _ _ p.1 _ _ c.in-Des.is) (right_3c _ _ _ _ _ p.0 c.in_ok-challenge_3c.ensures.0) e.0) _ _ _ c.verify_challenge1b.ensures e.1 (des_under_beta _ _ _ _ _ p.1 _ _ c.in-Des.is c.args.challenge_3c.now) c.accept.ensures
+
+pub returns-in_err-challenge-in-Aes128 : goal.returns-in_err-challenge-in-Aes128
+unfolding checking_1b
+returns-in_err-challenge-in-Aes128 c =
+    let p = c.in_ok-context.ensures in
+    let e = c.in_err-challenge-in-Aes128.ensures in
+    check_refused _ _ _ _ (given_wrong _ _ _ 16 (aes_size _ _ _ _ _ p.1 _ _ c.in-Aes128.is) e.0) c.in_err-challenge-in-Aes128.field-0.0 (search rules) e.1
+
+pub returns-in_ok-challenge-in-Aes128 : goal.returns-in_ok-challenge-in-Aes128
+unfolding checking_1b
+returns-in_ok-challenge-in-Aes128 c =
+    let p = c.in_ok-context.ensures in
+    let e = c.in_ok-challenge-in-Aes128.ensures in
+    checks _ _ _ _ (given_right _ _ _ 16 (aes_size _ _ _ _ _ p.1 _ _ c.in-Aes128.is) (right_3c _ _ _ _ _ p.0 c.in_ok-challenge_3c.ensures.0) e.0) _ _ _ c.verify_challenge1b-in-Aes128.ensures e.1 (aes_under_beta _ _ _ _ _ p.1 _ _ c.in-Aes128.is _ _ c.in_ok-challenge_3c.ensures.1) c.accept-in-Aes128.ensures

@@ -1,33 +1,38 @@
-use mathlib.Core.Path.{sym, ap, ◌∙◌}
-use mathlib.Core.Bool.{Bool, not}
-use borrow.Author.Tests.{eq-eqb, ne_eqb}
-use lib.Dec.{eqb}
-use lib.ListN.{length}
-use Rattle.answer.specs.Tests.{isnt, either}
-use Rattle.session.specs.Challenge.{under_alpha, block_size, wrong, checking_2b}
-use Rattle.session.proofs.Challenges.{or_before, or_number, check_refused, checks}
+use borrow.Author.Rules.{rules}
+use Rattle.session.specs.Challenge.{checking_2b}
+use Rattle.session.proofs.Challenges.{check_refused, checks, either_first, given_wrong, given_right, des_size, aes_size, des_under_alpha, aes_under_alpha}
 use Rattle.session.proofs.challenge.verify_challenge2b.Goals as goal
-use Rattle.session.proofs.challenge.verify_challenge2b.Goals.{then-wrong-via-then-wrong, then-wrong-via-else-wrong+then-challenge_2b-block_size}
 
-pub returns-then-wrong : goal.returns-then-wrong
+pub returns-in_err-context : goal.returns-in_err-context
 unfolding checking_2b
-returns-then-wrong c =
-    let e = c.is_wrong-wrong.ensures in
-    let a = c.args in
-    let t : Bool = wrong a.scheme (length a.keys.now) (length a.idm.now) (length a.random_2.now) in
-    let bad : Bool = either t (isnt (eqb (length a.challenge_2b.now) (block_size a.scheme))) in
-    check_refused _ _ _ bad
-    (elim c.then-wrong.branch [
-      | then-wrong-via-then-wrong w ↦ sym (or_before t _ e _ w.if-wrong.true) ∙ w.if-wrong.true
-      | then-wrong-via-else-wrong+then-challenge_2b-block_size w ↦ sym (or_number t _ e _ _ _ w.if-wrong.false w.block_size.ensures) ∙ ap not (ne_eqb _ _ w.if-challenge_2b-block_size.true)
-    ]) c.refused.ensures
+returns-in_err-context c =
+    let e = c.in_err-context.ensures in
+    check_refused _ _ _ _ (either_first _ _ e.0) c.in_err-context.field-0.0 (search rules) e.1
 
-pub is_challenge2b-requires : goal.is_challenge2b-requires
-is_challenge2b-requires c =
-    record { challenge_2b_len = c.if-challenge_2b-block_size.false ∙ c.block_size.ensures; not_wrong = sym c.is_wrong-wrong.ensures ∙ c.if-wrong.false }
-
-pub returns : goal.returns
+pub returns-in_err-challenge-in-Des : goal.returns-in_err-challenge-in-Des
 unfolding checking_2b
-returns c =
-    let a = c.args in
-    checks _ (under_alpha a.scheme a.keys.now a.idm.now a.random_2.now) _ _ _ (sym (or_number (wrong a.scheme (length a.keys.now) (length a.idm.now) (length a.random_2.now)) _ c.is_wrong-wrong.ensures _ _ _ c.if-wrong.false c.block_size.ensures) ∙ ap not (eq-eqb _ _ c.if-challenge_2b-block_size.false)) c.is_challenge2b.ensures c.accept.ensures
+returns-in_err-challenge-in-Des c =
+    let p = c.in_ok-context.ensures in
+    let e = c.in_err-challenge-in-Des.ensures in
+    check_refused _ _ _ _ (given_wrong _ _ _ 8 (des_size _ _ _ _ _ p.1 _ _ c.in-Des.is) e.0) c.in_err-challenge-in-Des.field-0.0 (search rules) e.1
+
+pub returns-in_ok-challenge-in-Des : goal.returns-in_ok-challenge-in-Des
+unfolding checking_2b
+returns-in_ok-challenge-in-Des c =
+    let p = c.in_ok-context.ensures in
+    let e = c.in_ok-challenge-in-Des.ensures in
+    checks _ _ _ _ (given_right _ _ _ 8 (des_size _ _ _ _ _ p.1 _ _ c.in-Des.is) p.0 e.0) _ _ _ c.verify_challenge2b.ensures e.1 (des_under_alpha _ _ _ _ _ p.1 _ _ c.in-Des.is) c.accept.ensures
+
+pub returns-in_err-challenge-in-Aes128 : goal.returns-in_err-challenge-in-Aes128
+unfolding checking_2b
+returns-in_err-challenge-in-Aes128 c =
+    let p = c.in_ok-context.ensures in
+    let e = c.in_err-challenge-in-Aes128.ensures in
+    check_refused _ _ _ _ (given_wrong _ _ _ 16 (aes_size _ _ _ _ _ p.1 _ _ c.in-Aes128.is) e.0) c.in_err-challenge-in-Aes128.field-0.0 (search rules) e.1
+
+pub returns-in_ok-challenge-in-Aes128 : goal.returns-in_ok-challenge-in-Aes128
+unfolding checking_2b
+returns-in_ok-challenge-in-Aes128 c =
+    let p = c.in_ok-context.ensures in
+    let e = c.in_ok-challenge-in-Aes128.ensures in
+    checks _ _ _ _ (given_right _ _ _ 16 (aes_size _ _ _ _ _ p.1 _ _ c.in-Aes128.is) p.0 e.0) _ _ _ c.verify_challenge2b-in-Aes128.ensures e.1 (aes_under_alpha _ _ _ _ _ p.1 _ _ c.in-Aes128.is) c.accept-in-Aes128.ensures

@@ -7,6 +7,6 @@ pub returns-then-scheme-eq-DES : goal.returns-then-scheme-eq-DES
 unfolding credentials_size choose
 returns-then-scheme-eq-DES c = rw (eq-eqb _ 1 c.if-scheme-eq-DES.true)
 
-pub returns : goal.returns
+pub returns-else-scheme-eq-DES : goal.returns-else-scheme-eq-DES
 unfolding credentials_size choose
-returns c = rw (ne_eqb _ 1 c.if-scheme-eq-DES.false)
+returns-else-scheme-eq-DES c = rw (ne_eqb _ 1 c.if-scheme-eq-DES.false)

@@ -1,16 +1,14 @@
-use Rattle.session.proofs.KeySearch.{known_start, known_found, known_step, known_done}
-use mathlib.Core.Path.{refl}
-use native.Mathlib.Omega.{arith}
+use Rattle.std.proofs.Common.{◌∙◌, sym, rules, tests}
+use Rattle.std.proofs.lemmas.Iterator.Search.{any_from_yields_List}
+use Rattle.answer.specs.Tests.{isnt, either}
+use lib.Dec.{eqb}
+use Rattle.session.specs.Entries.{entry_of, entries}
+use Rattle.session.proofs.KeySearch.{YieldsList-from_entries, unknown_any}
 use Rattle.session.proofs.keys.any_algorithm_unknown.Goals as goal
 
-pub loop-i-init : goal.loop-i-init
-loop-i-init c = (refl, known_start _)
-
-pub returns-then-is_unknown_algorithm : goal.returns-then-is_unknown_algorithm
-returns-then-is_unknown_algorithm c = known_found _ _ c.loop-i.invariant.1 (omega arith) _ c.is_unknown_algorithm.ensures c.if-is_unknown_algorithm.true
-
-pub loop-i-preserved : goal.loop-i-preserved
-loop-i-preserved c = (c.loop-i.invariant.0, known_step _ _ c.loop-i.invariant.1 (omega arith) _ c.is_unknown_algorithm.ensures c.if-is_unknown_algorithm.false)
-
 pub returns : goal.returns
-returns c = known_done _ _ c.loop-i.invariant.1 (omega arith)
+unfolding entry_of isnt either
+returns c =
+    let a = c.args in
+    any_from_yields_List (λ e. isnt (either (eqb e.algorithm 1) (eqb e.algorithm 2))) _ _ _ c.any.ensures.ran (YieldsList-from_entries a.keys.now c.chunks_exact.ensures.rest c.chunks_exact.ensures.size) (λ x b q k. search (rules, tests))
+    ∙ sym (unknown_any (entries a.keys.now))

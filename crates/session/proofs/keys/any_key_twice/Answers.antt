@@ -1,21 +1,16 @@
-use mathlib.Core.Path.{refl}
-use Rattle.frame.proofs.DesOpens.{rest_part}
-use Rattle.session.proofs.KeySearch.{once_start, once_found, once_step, once_done}
-use native.Mathlib.Omega.{arith}
+use Rattle.std.proofs.Common.{◌∙◌, sym, ◌<◌, length, rules}
+use Rattle.session.proofs.KeySearch.{twice_found, twice_passed, twice_short}
 use Rattle.session.proofs.keys.any_key_twice.Goals as goal
-
-pub loop-i-init : goal.loop-i-init
-loop-i-init c = (refl, once_start _)
 
 pub returns-then-has_key : goal.returns-then-has_key
 returns-then-has_key c =
-    let v = c.loop-i.invariant in
-    once_found _ _ v.1 (omega arith) _ c.node_at-node.ensures _ (rw rest_part at c.has_key.ensures) c.if-has_key.true
+    let k = c.in-Some.ensures.cases in
+    twice_found _ _ _ k.0 k.1 k.2 _ _ c.from_le_bytes-node.ensures c.has_key.ensures c.if-has_key.true ∙ c.loop-entry.invariant
 
-pub loop-i-preserved : goal.loop-i-preserved
-loop-i-preserved c =
-    let v = c.loop-i.invariant in
-    (v.0, once_step _ _ v.1 (omega arith) _ c.node_at-node.ensures _ (rw rest_part at c.has_key.ensures) c.if-has_key.false)
+pub loop-entry-preserved : goal.loop-entry-preserved
+loop-entry-preserved c =
+    let k = c.in-Some.ensures.cases in
+    twice_passed _ _ _ k.0 k.1 k.2 _ _ c.from_le_bytes-node.ensures c.has_key.ensures c.if-has_key.false ∙ c.loop-entry.invariant
 
 pub returns : goal.returns
-returns c = once_done _ _ c.loop-i.invariant.1 (omega arith)
+returns c = let h : length c.loop-entry.rest.now < 19 = search rules in sym (twice_short c.loop-entry.rest.now h) ∙ c.loop-entry.invariant

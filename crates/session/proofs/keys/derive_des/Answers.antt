@@ -1,26 +1,37 @@
-use mathlib.Core.Path.{sym}
-use lib.Seq.{length-take-le}
-use Rattle.session.proofs.DerivationSteps.{des_refused, des_passed}
-use borrow.Author.Rules.{rules}
-use Prim.Native.Nat.{ℕ}
-use lib.ListN.{length-take}
-use native.Mathlib.Omega.{arith}
+use Rattle.std.proofs.Common.{◌∙◌, rules, tests}
+use Rattle.answer.specs.Outcome.{choose}
+use Rattle.session.specs.Derivation.{key_length}
+use Rattle.session.proofs.NodeLists.{length_nodes, Lists-nodes, Lists-keyed}
+use Rattle.session.proofs.DerivationSteps.{question_derives, des_refused, des_no_system, des_lacks_area, des_lacks_service, des_given}
 use Rattle.session.proofs.keys.derive_des.Goals as goal
 
-pub returns-then-refusal-ne0 : goal.returns-then-refusal-ne0
-returns-then-refusal-ne0 c =
-    des_refused _ _ _ _ _ c.keep_bearing-n.ensures.2 _ c.guard_des-refusal.ensures _ _ _ c.if-refusal-ne0.true c.refused.ensures
+pub under_des_keys-requires-clause-few : goal.under_des_keys-requires-clause-few
+under_des_keys-requires-clause-few c = rw (c.of.ensures, length_nodes) (tt, c.requires.areas_len_bound)
 
-pub slice_bounds-derive_des_bearing-end : goal.slice_bounds-derive_des_bearing-end
-slice_bounds-derive_des_bearing-end c = sym (length-take-le _ _ (search rules))
+pub under_des_keys-requires-2-clause-few : goal.under_des_keys-requires-2-clause-few
+under_des_keys-requires-2-clause-few c = rw (c.filter-keyed.ensures.source, c.of-2.ensures, length_nodes) (tt, c.requires.services_len_bound)
 
-pub derive_des_bearing-requires : goal.derive_des_bearing-requires
-derive_des_bearing-requires c =
-    let h = c.keep_bearing-n.ensures.0 in
-    let q = length-take {A = ℕ} c.keep_bearing-n.result c.keep_bearing-n.new.out in
-    record { areas_len_bound = c.requires.areas_len_bound; services_len_bound = omega (arith, q) }
+pub returns-in_err-check_des : goal.returns-in_err-check_des
+returns-in_err-check_des c = question_derives _ _ _ _ _ c.from_residual.ensures.1 (des_refused _ _ _ _ _ c.in_err-check_des.ensures)
+
+pub returns-in_err-system : goal.returns-in_err-system
+returns-in_err-system c = question_derives _ _ _ _ _ c.from_residual-in_err-system.ensures.1 (des_no_system _ _ _ _ c.in_ok-check_des.ensures _ c.in_err-system.ensures)
+
+pub returns-in_err-group : goal.returns-in_err-group
+returns-in_err-group c =
+    question_derives _ _ _ _ _ c.from_residual-in_err-group.ensures.1
+    (des_lacks_area _ _ _ _ c.in_ok-check_des.ensures c.in_ok-system.ensures.0 _ (c.in_err-group.ensures _ (Lists-nodes c.args.areas.now c.of.ensures)))
+
+pub returns-in_err-user : goal.returns-in_err-user
+returns-in_err-user c =
+    let g = c.in_ok-group.ensures _ (Lists-nodes c.args.areas.now c.of.ensures) in
+    question_derives _ _ _ _ _ c.from_residual-in_err-user.ensures.1
+    (des_lacks_service _ _ _ _ c.in_ok-check_des.ensures c.in_ok-system.ensures.0 g.0 _ (c.in_err-user.ensures _ (Lists-keyed _ _ c.args.services.now c.filter-keyed.ensures.source c.of-2.ensures c.filter-keyed.ensures.closure (λ x b q k. search (rules, tests)))))
 
 pub returns : goal.returns
+unfolding key_length choose
 returns c =
-    let k = c.keep_bearing-n.ensures in
-    des_passed _ _ _ _ _ k.2 _ c.guard_des-refusal.ensures _ _ _ _ _ k.1 c.if-refusal-ne0.false c.derive_des_bearing.ensures
+    let g = c.in_ok-group.ensures _ (Lists-nodes c.args.areas.now c.of.ensures) in
+    let u = c.in_ok-user.ensures _ (Lists-keyed _ _ c.args.services.now c.filter-keyed.ensures.source c.of-2.ensures c.filter-keyed.ensures.closure (λ x b q k. search (rules, tests))) in
+    let s = c.in_ok-system.ensures in
+    rw (des_given _ _ _ _ c.in_ok-check_des.ensures s.0 g.0 u.0 _ _ _ (c.fit.ensures.1 s.2 ∙ s.1) g.1 u.1) c.deliver.ensures

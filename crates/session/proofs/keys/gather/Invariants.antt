@@ -1,11 +1,13 @@
-use Prim.Native.Nat.{◌-◌}
-use lib.ListN.{length}
+use Rattle.std.proofs.Common.{◌+◌, ◌*◌, ◌≤◌, length}
+use Rattle.answer.specs.Scheme.{mark_of}
 use Rattle.session.specs.Entries.{entries}
-use Rattle.session.proofs.Gathering.{Gathering}
+use Rattle.session.proofs.Gathering.{Gathered}
 use Rattle.session.proofs.keys.gather.Given as goal
 
-abbrev pub invariant-loop-i : goal.invariant-loop-i
-invariant-loop-i l = Gathering (entries l.keys) l.algorithm l.list l.initial.state l.initial.work l.work l.state l.i
-
-abbrev pub decreases-loop-i : goal.decreases-loop-i
-decreases-loop-i l = length l.list - l.i
+abbrev pub invariant-loop-node : goal.invariant-loop-node
+invariant-loop-node g l = record {
+  can : (goal.iterator-loop-node g).can_next l.node-iterator;
+  finite : (goal.iterator-loop-node g).is_finite l.node-iterator;
+  room : l.end + (goal.iterator-loop-node g).remaining l.node-iterator * 16 ≤ length l.work;
+  gathered : Gathered (entries l.keys) (mark_of l.scheme) l.yielded l.end l.work;
+}

@@ -1,13 +1,12 @@
-use lib.Dec.{lit≤}
-use borrow.Author.Tests.{eq-eqb, ne_eqb}
+use Rattle.std.proofs.Common.{rules}
 use Rattle.answer.specs.Outcome.{choose}
 use Rattle.session.specs.Derivation.{key_length}
 use Rattle.session.proofs.keys.key_length.Goals as goal
 
-pub returns-then-algorithm-eq-DES : goal.returns-then-algorithm-eq-DES
+pub returns-in-Des : goal.returns-in-Des
 unfolding key_length choose
-returns-then-algorithm-eq-DES c = (rw (eq-eqb _ _ c.if-algorithm-eq-DES.true), lit≤ tt)
+returns-in-Des c = search rules
 
-pub returns : goal.returns
+pub returns-in-Aes128 : goal.returns-in-Aes128
 unfolding key_length choose
-returns c = (rw (ne_eqb _ _ c.if-algorithm-eq-DES.false), lit≤ tt)
+returns-in-Aes128 c = search rules

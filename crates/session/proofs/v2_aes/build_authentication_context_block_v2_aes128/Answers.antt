@@ -1,8 +1,9 @@
-use native.Mathlib.Omega.{arith}
-use Rattle.session.proofs.Challenges.{context_block_lem}
+use mathlib.Core.Path.{ap}
+use mathlib.Core.List.{List, [], ◌∷◌, ◌++◌}
+use Prim.Native.Nat.{ℕ}
+use Rattle.session.specs.Challenge.{context_block}
 use Rattle.session.proofs.v2_aes.build_authentication_context_block_v2_aes128.Goals as goal
 
 pub returns : goal.returns
-returns c =
-    let g = c.well_formed in
-    context_block_lem _ _ c.copy.new.dst (omega (arith, g)) c.copy.ensures
+unfolding context_block
+returns c = ap (λ (l : List ℕ). c.args.which ∷ 2 ∷ 0 ∷ 0 ∷ 0 ∷ 0 ∷ (l ++ (1 ∷ 0 ∷ []))) c.copy_from_slice.ensures.after

@@ -1,16 +1,39 @@
-use mathlib.Core.Path.{refl, sym, ◌∙◌}
-use Rattle.session.proofs.SessionSteps.{make_passes, credentials_most}
+use mathlib.Core.Path.{sym, ◌∙◌}
+use borrow.Author.Rules.{rules}
+use native.Mathlib.Omega.{arith}
+use Rattle.session.specs.Session.{established}
+use Rattle.session.proofs.SessionSteps.{credentials_most, filled_is, unknown_mark, known_mark, wrong_id, wrong_credentials, half_node, too_many_nodes, no_row, made_refused}
 use Rattle.session.proofs.context.AuthenticatedContext.new.Goals as goal
+use Rattle.session.proofs.context.AuthenticatedContext.new.Goals.{then-credentials-credentials_size-via-then-credentials-credentials_size, then-credentials-credentials_size-via-else-credentials-credentials_size+then-nodes-ne0}
 
-pub returns-then-refusal-ne0 : goal.returns-then-refusal-ne0
-returns-then-refusal-ne0 c =
-    record { number_is = c.guard_new-refusal.ensures; accepted = λ z. absurd (c.if-refusal-ne0.true z); refused = λ z. c.empty.ensures }
+pub returns-in_err-try_from : goal.returns-in_err-try_from
+returns-in_err-try_from c =
+    let a = c.args in
+    made_refused a.scheme a.number a.id.now a.credentials.now a.nodes.now c.in_err-try_from.field-0.0 (search rules)
+    (unknown_mark _ _ _ _ c.in_err-try_from.field-0.0 c.in_err-try_from.ensures)
 
-pub establish-requires : goal.establish-requires
-establish-requires c =
-    let p = make_passes _ _ _ _ _ c.guard_new-refusal.ensures c.if-refusal-ne0.false in
-    record { id_len = p.six; credentials_len_bound = rw p.all (credentials_most _); nodes_len_bound = p.short }
+pub returns-in_err-id : goal.returns-in_err-id
+returns-in_err-id c =
+    let a = c.args in
+    made_refused a.scheme a.number a.id.now a.credentials.now a.nodes.now c.in_err-id.field-0.0 (search rules)
+    (wrong_id _ _ _ _ c.in_err-id.field-0.0 c.in_err-id.ensures)
+
+pub returns-then-credentials-credentials_size : goal.returns-then-credentials-credentials_size
+returns-then-credentials-credentials_size c =
+    elim c.then-credentials-credentials_size.branch [
+      | then-credentials-credentials_size-via-then-credentials-credentials_size w ↦ wrong_credentials _ _ _ _ (λ e. w.if-credentials-credentials_size.true (e ∙ sym c.credentials_size.ensures))
+      | then-credentials-credentials_size-via-else-credentials-credentials_size+then-nodes-ne0 w ↦ half_node _ _ _ _ w.if-nodes-ne0.true
+    ]
+
+pub returns-then-nodes-gt128 : goal.returns-then-nodes-gt128
+returns-then-nodes-gt128 c =
+    too_many_nodes c.args.scheme _ _ _ (known_mark _ _ c.in_ok-try_from.ensures) c.in_ok-id.ensures.0 (c.if-credentials-credentials_size.false ∙ c.credentials_size.ensures) c.if-nodes-ne0.false c.if-nodes-gt128.true
 
 pub returns : goal.returns
+unfolding established
 returns c =
-    record { number_is = sym c.if-refusal-ne0.false ∙ c.guard_new-refusal.ensures; accepted = λ z. c.establish.ensures; refused = λ z. absurd (z refl) }
+    let a = c.args in
+    let size = c.if-credentials-credentials_size.false ∙ c.credentials_size.ensures in
+    let k = filled_is 36 a.credentials.now c.fit.result (omega (arith, size, credentials_most a.scheme)) c.fit.ensures.0 in
+    let n = filled_is 128 a.nodes.now c.fit-2.result c.if-nodes-gt128.false c.fit-2.ensures.0 in
+    (no_row a.scheme _ _ _ (known_mark _ _ c.in_ok-try_from.ensures) c.in_ok-id.ensures.0 size c.if-nodes-ne0.false c.if-nodes-gt128.false, rw (c.in_ok-id.ensures.1, k, n))

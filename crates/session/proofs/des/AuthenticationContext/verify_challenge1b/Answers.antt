@@ -5,4 +5,4 @@ use Rattle.session.proofs.des.AuthenticationContext.verify_challenge1b.Goals as 
 
 pub returns : goal.returns
 returns c =
-    same_is _ _ _ c.ct_eq.ensures ∙ ap (same _) c.encrypt_challenge1b-wanted.ensures
+    same_is _ _ _ c.ct_eq.ensures ∙ ap (same _) c.encrypt_challenge1b.ensures

@@ -5,4 +5,4 @@ use Rattle.session.proofs.v2_aes.AuthenticationContextV2Aes128.beta_with_challen
 pub returns : goal.returns
 returns c =
     let g = c.well_formed in
-    with_mask _ _ c.copy.new.dst _ (omega (arith, g)) c.copy.ensures c.xor_blocks16.ensures
+    with_mask _ _ _ _ (omega (arith, g)) c.fit.ensures.0 c.xor_blocks.ensures

@@ -5,4 +5,4 @@ use Rattle.session.proofs.v2_aes.AuthenticationContextV2Aes128.verify_challenge2
 
 pub returns : goal.returns
 returns c =
-    same_is _ _ _ c.ct_eq.ensures ∙ ap (same _) c.encrypt_challenge2b-wanted.ensures
+    same_is _ _ _ c.ct_eq.ensures ∙ ap (same _) c.encrypt_challenge2b.ensures

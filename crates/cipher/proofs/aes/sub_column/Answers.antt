@@ -1,0 +1,16 @@
+-- `sub_column` meets its contract: a list of four bytes, one after the other. Assumes nothing.
+use mathlib.Core.Path.{◌≡◌, refl, sym, ap, ◌∙◌}
+use mathlib.Core.List.{map}
+use lib.ListN.{length}
+use native.Mathlib.Omega.{arith}
+use Rattle.cipher.specs.Bytes.{tab}
+use Rattle.cipher.specs.Fips197.{s_box}
+use Rattle.cipher.proofs.Tabulation.{listed}
+use Rattle.cipher.proofs.Words.{◌◂◌}
+use Rattle.cipher.proofs.aes.sub_column.Goals as goal
+
+pub returns : goal.returns
+unfolding tab
+returns c =
+    let l : length c.args.column ≡ 4 = omega arith in
+    c.word.ensures ∙ c.s_box.ensures ◂ c.s_box-2.ensures ◂ c.s_box-3.ensures ◂ c.s_box-4.ensures ◂ refl ∙ ap (map s_box) (sym (listed 4 c.args.column l))

@@ -1,0 +1,41 @@
+-- Calls on the bytes of a session, once they were loaded or refused (`load` of src/sessions.rt). Assumes nothing.
+use mathlib.Core.Path.{◌≡◌, refl, ◌∙◌}
+use mathlib.Core.Bool.{true, false}
+use mathlib.Core.List.{List}
+use Prim.Native.Nat.{ℕ}
+use native.Mathlib.Omega.{arith}
+use Rattle.answer.specs.Outcome.{over}
+use Rattle.answer.specs.Refusal.{refusal_number}
+use Rattle.answer.specs.declared.refusal.Refusal.{Refusal}
+use Rattle.answer.specs.declared.refusal.Refusal.TheVariants.{BadMarkOrLength}
+use Rattle.session.specs.Record.{encode, decode, is_session}
+use Rattle.session.specs.declared.context.AuthenticatedContext.{AuthenticatedContext}
+use Rattle.felica_secure.specs.Calls.{Call, Tells, Keeps}
+use Rattle.felica_secure.specs.Packed.{packed}
+use Rattle.felica_secure.specs.SessionCalls.{kept_session}
+use Rattle.felica_secure.proofs.KeptStates.{no_tells, no_keeps, tells, keeps}
+
+-- a refusal, packed
+pub packed_refusal : (e : Refusal) {r : ℕ} → r ≡ packed (refusal_number e) 0 0 0 → r ≡ refusal_number e
+unfolding packed
+packed_refusal e p = p ∙ omega arith
+
+pub packed_bad : (e : Refusal) {r : ℕ} → e ≡ BadMarkOrLength → r ≡ packed (refusal_number e) 0 0 0 → r ≡ 17
+packed_bad e q p = packed_refusal e p ∙ rw q
+
+module _ (call : AuthenticatedContext → Call AuthenticatedContext) (b : List ℕ) {r : ℕ} where
+  -- no session
+  module _ (e : Refusal) (h : (is_session b ≡ false) × (e ≡ BadMarkOrLength)) (p : r ≡ packed (refusal_number e) 0 0 0) (out : List ℕ) where
+    pub untold : Tells kept_session call b r out out
+    untold = no_tells kept_session call b r h.0 (packed_bad e h.1 p) out
+
+    pub unkept : Keeps kept_session call b b r out out
+    unkept = no_keeps kept_session call b r h.0 (packed_bad e h.1 p) out
+
+  -- a session s
+  module _ (s : AuthenticatedContext) (h : (is_session b ≡ true) × (s ≡ decode b)) (before after : List ℕ) (e : r ≡ (call s).answer) (w : after ≡ over (call s).bytes before) where
+    pub told : Tells kept_session call b r before after
+    told = tells kept_session call b r h.0 s h.1 before after e w
+
+    pub kept : (c : List ℕ) (t : AuthenticatedContext) → t ≡ (call s).state → (c ≡ encode t) × (decode c ≡ t) → Keeps kept_session call b c r before after
+    kept = keeps kept_session call b r h.0 s h.1 before after e w

@@ -1,6 +1,0 @@
-use Rattle.session.specs.Challenge.{session_key_input}
-use Rattle.session.proofs.v2_aes.derive_keys.Goals as goal
-
-pub returns : goal.returns
-unfolding session_key_input
-returns c = (c.encrypt_aes128_block-encryption_key.ensures, c.encrypt_aes128_block-mac_key.ensures)
