@@ -42,8 +42,8 @@ module _ (number : ℕ) (mac wanted payload : List ℕ) (room : ℕ) (r : Bool) 
 
 -- ---- the work block
 
-add-two : (n : ℕ) → n + 2 ≡ suc (suc n)
-add-two n = omega arith
+add_two : (n : ℕ) → n + 2 ≡ suc (suc n)
+add_two n = omega arith
 
 -- a payload of up to 65,535 bytes goes out with its length
 pub aes_accepting_meets : (number : ℕ) (mac wanted payload : List ℕ) (room : ℕ) {r : Answer} {before after : List ℕ} → Delivers (aes_accepting number mac wanted payload room) r before after → length payload ≤ 65535
@@ -96,7 +96,7 @@ module _ (code number : ℕ) (id c sealed mac z : List ℕ) (small : number < 65
       let k : length d - 10 ≡ n = omega (arith, length_parts) in
       let j : length d - 8 ≡ n + 2 = omega (arith, length_parts) in
       let part : take (length d - 10) (drop 2 d) ≡ sealed = rw k (take_at sealed mac n refl) in
-      let tail : drop (length d - 8) d ≡ mac = rw (j, add-two n) (drop_at sealed mac n refl) in
+      let tail : drop (length d - 8) d ≡ mac = rw (j, add_two n) (drop_at sealed mac n refl) in
       let v : iv ≡ opened_iv c code id d = eiv ∙ rw (e3, k) in
       let p : take n (l ++ drop n w) ≡ opened_payload c code id d = take_at l (drop n w) n (ll ∙ lw) ∙ el ∙ rw (ek, v, f, part) in
       let m : mac' ≡ opened_mac c code id d = em ∙ rw (ek, lw, v, tail, k) in
