@@ -1,4 +1,4 @@
--- Document 01, How to write each place: C callers pass numbers and byte slices only. So a state that a C caller keeps is bytes: what a call on
+-- docs/RULES.md, For C: C callers pass numbers and byte slices only. So a state that a C caller keeps is bytes: what a call on
 -- the bytes answers, writes and leaves, over any state with its encoding. Assumes nothing.
 use Rattle.std.specs.Prelude.{ℕ, Bool, true, ◌≡◌, List, [], ◌∷◌, eqb, length}
 use Rattle.answer.specs.Outcome.{Outcome, Row, row, choose, decide, accepted, over}

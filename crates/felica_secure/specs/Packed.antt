@@ -1,4 +1,4 @@
--- Document 01, How to write each place: C callers pass numbers and byte slices only. What they get is one number of 64 bits, laid out here:
+-- docs/RULES.md, For C: C callers pass numbers and byte slices only. What they get is one number of 64 bits, laid out here:
 -- bits 0 to 7 are the number of the refusal, 0 for acceptance; 8 to 15 a scheme mark; 16 to 31 a length; 32 to 47 a transaction number; the
 -- rest is 0. Assumes nothing.
 use Rattle.std.specs.Prelude.{ℕ, ◌+◌, ◌*◌, ◌/◌, ◌%◌, ◌≡◌, List, length}

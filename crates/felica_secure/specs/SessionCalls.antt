@@ -1,4 +1,4 @@
--- Document 01, How to write each place, and Corners (mod.rs): the calls on the session that a C caller keeps. Assumes nothing.
+-- docs/RULES.md, For C and Corners (mod.rs): the calls on the session that a C caller keeps. Assumes nothing.
 use Rattle.std.specs.Prelude.{ℕ, ◌*◌, List, [], take}
 use Rattle.answer.specs.Delivery.{delivering}
 use Rattle.felica_secure.specs.Calls.{Kept, Call, answering, telling}

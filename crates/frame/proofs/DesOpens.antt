@@ -5,11 +5,11 @@ use mathlib.Core.List.{List, [], ◌∷◌, ◌++◌}
 use Prim.Native.Nat.{ℕ, ◌+◌, ◌-◌, ◌%◌, ◌≤◌, ◌<◌}
 use native.Mathlib.Omega.{arith}
 use borrow.Author.Tests.{le-ltb}
-use lib.Dec.{ltb}
+use lib.Dec.{ltb, lit<}
 use lib.ListN.{length, take, drop, length-drop}
 use lib.Seq.{take_all}
 use Rattle.cipher.specs.Fips46.{des_decrypt}
-use Rattle.cipher.specs.Fold.{back_from, under_each_back}
+use Rattle.cipher.specs.Fold.{under_each_back}
 use Rattle.answer.specs.Number.{number_of}
 use Rattle.std.specs.Prelude.{Err}
 use Rattle.answer.specs.declared.refusal.Refusal.{Refusal}
@@ -22,6 +22,7 @@ use Rattle.frame.specs.inner.Response.{checked_delivering, parsed_delivering}
 use Rattle.answer.specs.Tests.{isnt, same}
 use Rattle.answer.proofs.Rows.{AllFalse, both_right, right_length, row_meets, decided_meets}
 use Rattle.answer.proofs.Pieces.{no_longer}
+use Rattle.cipher.proofs.Folds.{back_none}
 use Rattle.answer.proofs.Equality.{same_is}
 
 -- the rest of a list, as a part from e to its end
@@ -34,17 +35,12 @@ pub mac_checked : (code : ℕ) (plain text mac back start : List ℕ) (r : Bool)
 unfolding mac_holds recovered
 mac_checked code plain text mac back start r et em eb es h = same_is back start r h ∙ ap₂ same (eb ∙ ap₂ (under_each_back des_decrypt 8) et em) es
 
--- under no key a block stays
-back_none : (s : List ℕ) → under_each_back des_decrypt 8 (take 0 s) s ≡ s
-unfolding under_each_back back_from
-back_none s = refl
-
 -- a plain text that is shorter than a MAC has none
 pub no_mac : (code : ℕ) (plain : List ℕ) → length plain < 8 → false ≡ mac_holds code plain
 unfolding mac_holds recovered mac_start
 no_mac code plain h =
     let z : length plain - 8 ≡ 0 = omega arith in
-    let b : recovered plain ≡ plain = rw z (back_none plain) in
+    let b : recovered plain ≡ plain = rw z (back_none des_decrypt 8 plain (lit< tt)) in
     same_is (recovered plain) (mac_start (length plain + 2) code) false (λ e. cc, λ e. let l : length plain ≡ 8 = ap length (sym b ∙ e) in absurd (omega arith))
 
 -- ---- the plain text

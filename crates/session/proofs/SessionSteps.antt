@@ -135,26 +135,6 @@ any_of false true true true h = absurd (⊎_elim no (⊎_elim no no) h)
     no : true ≡ false → ⊥
     no e = cc
 
--- a mark from 1 to 2 is known, others are not
-pub mark_one_two : (s : ℕ) → 1 ≤ s → s ≤ 2 → either (eqb s 1) (eqb s 2) ≡ true
-unfolding either
-mark_one_two s l h =
-    ⊎_elim
-    (λ (g : 2 ≤ s). let e : s ≡ 2 = omega arith in rw e)
-    (λ (g : s < 2). let e : s ≡ 1 = omega arith in rw e)
-    (le_or_lt 2 s)
-
-pub mark_low : (s : ℕ) → s < 1 → either (eqb s 1) (eqb s 2) ≡ false
-unfolding either
-mark_low s h = let e : s ≡ 0 = omega arith in rw e
-
-pub mark_high : (s : ℕ) → 2 < s → either (eqb s 1) (eqb s 2) ≡ false
-unfolding either
-mark_high s h =
-    let n : s ≡ 1 → ⊥ = λ e. omega arith in
-    let m : s ≡ 2 → ⊥ = λ e. omega arith in
-    rw (ne_eqb s 1 n, ne_eqb s 2 m)
-
 -- a mark that names a scheme
 pub known_mark : (s : Scheme) (mark : ℕ) → mark_of s ≡ mark → either (eqb mark 1) (eqb mark 2) ≡ true
 unfolding either

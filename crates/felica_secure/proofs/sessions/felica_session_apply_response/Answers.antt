@@ -1,4 +1,4 @@
-use mathlib.Core.Path.{refl, ◌∙◌}
+use mathlib.Core.Path.{◌∙◌}
 use lib.ListN.{length}
 use Rattle.felica_secure.specs.Calls.{answering}
 use Rattle.session.proofs.Encoding.{session_size}
