@@ -52,6 +52,10 @@ module _ (CIPH : List ℕ → List ℕ → List ℕ) where
     unfolding under_each under_from
     under_none s h = rw (div-eq_of_lt h)
 
+    pub back_none : (s : List ℕ) → 0 < w → under_each_back CIPH w [] s ≡ s
+    unfolding under_each_back back_from
+    back_none s h = rw (div-eq_of_lt h)
+
     back_chunks : (n : ℕ) (s keys : List ℕ) → fold Turn s (reverse (first_chunks w n keys)) ≡ back_from CIPH w s n keys
     unfolding back_from
     back_chunks zero s keys = refl

@@ -5,11 +5,12 @@ use mathlib.Core.List.{List, [], ◌∷◌, ◌++◌}
 use Prim.Native.Nat.{ℕ, ◌+◌, ◌-◌, ◌%◌, ◌≤◌, ◌<◌}
 use native.Mathlib.Omega.{arith}
 use borrow.Author.Tests.{le-ltb}
-use lib.Dec.{ltb}
+use lib.Dec.{lit<, ltb}
 use lib.ListN.{length, take, drop, length-drop}
 use lib.Seq.{take_all}
 use Rattle.cipher.specs.Fips46.{des_decrypt}
-use Rattle.cipher.specs.Fold.{back_from, under_each_back}
+use Rattle.cipher.specs.Fold.{under_each_back}
+use Rattle.cipher.proofs.Folds.{back_none}
 use Rattle.answer.specs.Number.{number_of}
 use Rattle.std.specs.Prelude.{Err}
 use Rattle.answer.specs.declared.refusal.Refusal.{Refusal}
@@ -34,17 +35,12 @@ pub mac_checked : (code : ℕ) (plain text mac back start : List ℕ) (r : Bool)
 unfolding mac_holds recovered
 mac_checked code plain text mac back start r et em eb es h = same_is back start r h ∙ ap₂ same (eb ∙ ap₂ (under_each_back des_decrypt 8) et em) es
 
--- under no key a block stays
-back_none : (s : List ℕ) → under_each_back des_decrypt 8 (take 0 s) s ≡ s
-unfolding under_each_back back_from
-back_none s = refl
-
 -- a plain text that is shorter than a MAC has none
 pub no_mac : (code : ℕ) (plain : List ℕ) → length plain < 8 → false ≡ mac_holds code plain
 unfolding mac_holds recovered mac_start
 no_mac code plain h =
     let z : length plain - 8 ≡ 0 = omega arith in
-    let b : recovered plain ≡ plain = rw z (back_none plain) in
+    let b : recovered plain ≡ plain = rw z (back_none des_decrypt 8 plain (lit< tt)) in
     same_is (recovered plain) (mac_start (length plain + 2) code) false (λ e. cc, λ e. let l : length plain ≡ 8 = ap length (sym b ∙ e) in absurd (omega arith))
 
 -- ---- the plain text
