@@ -111,7 +111,10 @@ mod tests {
         let missing = format!(in alloc; "{}", Refusal::KeyMissing(0x1008))?;
         assert_eq!(rt; missing.as_str(), "node 1008 has no key");
         let differs = format!(in alloc; "{}", Refusal::MacDiffers)?;
-        assert_eq!(rt; differs.as_str(), "the MAC, or the challenge that is checked, differs");
+        assert_eq!(rt;
+            differs.as_str(),
+            "the MAC, or the challenge that is checked, differs"
+        );
         Ok(())
     }
 }
