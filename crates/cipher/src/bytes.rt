@@ -24,12 +24,15 @@ pub fn xor_blocks<const N: usize>(a: [u8; N], b: [u8; N]) -> [u8; N]
     out
 }
 
-// Copies src over the front of dst, as far as both reach.
+// Copies src over the front of dst, as far as both reach. The loop is memcpy in the archive: copy_from_slice would be memmove, which the
+// archive may not call.
 pub fn copy(src: &[u8], dst: &mut [u8])
     ensures { dst.new ≡ take (length dst.old) src.now ++ drop (length src.now) dst.old }
 {
     let n = src.len().min(dst.len());
-    dst[..n].copy_from_slice(&src[..n]);
+    for (i, byte) in src[..n].iter().enumerate() {
+        dst[i] = *byte;
+    }
 }
 
 // Sets each byte of dst to value.

@@ -241,7 +241,7 @@ pub fn decrypt_secure_response_trimmed_des(
     answer::deliver(opened.transaction_number, payload, out)
 }
 
-// A payload without the MAC that follows it.
+// A payload without the MAC that follows it; by index, since split_last_chunk does not say where in memory its parts stand.
 fn strip_des_response_mac(payload_with_mac: &[u8]) -> &[u8]
     requires { 8 ≤ length payload_with_mac.now }
     ensures { (result.now ≡ take (length payload_with_mac.now - 8) payload_with_mac.now) × (result.ref_ptr ≡ payload_with_mac.entry.ref_ptr) }
@@ -250,7 +250,7 @@ fn strip_des_response_mac(payload_with_mac: &[u8]) -> &[u8]
     &payload_with_mac[..end]
 }
 
-// What a MAC starts as.
+// What a MAC starts as: of the total length the lowest byte, the code, and zeros.
 fn mac_start(total: usize, code: u8) -> [u8; 8]
     ensures { result ≡ mac_start total code }
 {

@@ -129,7 +129,8 @@ fn seal_aes(
     Ok(size)
 }
 
-// Seals a command or a response, in a work block.
+// Seals a command or a response, in a work block. These lines and those of the response frame are des.rt's but for what seals: a trait for it
+// would be longer than they are.
 pub fn encrypt_secure_request_v2_aes128(
     code: u8,
     number: u16,
