@@ -1,7 +1,7 @@
 -- A message and its answer, step by step: one end makes it, the other reads it and answers, and the first checks the answer. One argument for
 -- both exchanges of random blocks and for a command and its response. Assumes nothing.
 use mathlib.Core.Path.{◌≡◌, refl, sym, ap, ap₂, ◌∙◌}
-use mathlib.Core.List.{List, [], ◌∷◌, ◌++◌}
+use mathlib.Core.List.{List, ◌++◌}
 use mathlib.Core.Logic.{⊎_elim}
 use Prim.Native.Nat.{ℕ, ◌+◌, ◌≤◌, ◌<◌}
 use native.Mathlib.Omega.{arith}
@@ -12,7 +12,7 @@ use Rattle.cipher.proofs.Numbers.{le_or_lt}
 use Rattle.answer.specs.declared.answer.Accepted.{Accepted}
 use Rattle.answer.specs.declared.refusal.Refusal.{Refusal}
 use Rattle.answer.specs.Refusal.{refusal_number}
-use Rattle.answer.specs.Outcome.{Outcome, Answer, answer_length, refused, accepted, choose, over, Meets}
+use Rattle.answer.specs.Outcome.{Outcome, Answer, refused, accepted, choose, over, Meets}
 use Rattle.answer.proofs.Outputs.{front}
 use Rattle.answer.proofs.Rows.{err_meets, refusal_some, meets_accepted}
 use Rattle.answer.proofs.Refusals.{refused_number}
@@ -32,11 +32,8 @@ module _ (o : Outcome) (v : Accepted) (z w : List ℕ) (m : Meets o (Ok v) z w) 
   pub piece_is : take v.length w ≡ o.bytes
   piece_is = front o.bytes z w v.length (sym m.length_is) m.output
 
-  pub piece_fits : length w ≡ length z → (v.length ≤ length w) × (length (take v.length w) ≤ length z)
-  piece_fits l =
-      let f = fits_front o.bytes z w m.output l in
-      let n = ap length piece_is in
-      (omega (arith, m.length_is, f), omega (arith, n, f))
+  pub piece_fits : length w ≡ length z → v.length ≤ length w
+  piece_fits l = let f = fits_front o.bytes z w m.output l in omega (arith, m.length_is, f)
 
 -- ---- a pair
 

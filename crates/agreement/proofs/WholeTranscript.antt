@@ -1,11 +1,11 @@
 -- A whole transcript: three pairs of messages after two derivations. Assumes nothing.
 use mathlib.Core.Path.{◌≡◌, refl, sym, ap, ap₂, ◌∙◌, subst}
 use mathlib.Core.List.{List, [], ◌∷◌, ◌++◌, append_assoc}
-use Prim.Native.Nat.{ℕ, zero, suc, ◌-◌, ◌≤◌}
+use Prim.Native.Nat.{ℕ, zero, suc, ◌≤◌}
 use native.Mathlib.Omega.{arith}
 use borrow.Author.Tests.{eq-eqb, ne_eqb}
-use lib.ListN.{length, take, length-append}
-use Rattle.std.specs.Prelude.{Ok, Err, Result}
+use lib.ListN.{length, take}
+use Rattle.std.specs.Prelude.{Ok, Err}
 use Rattle.answer.specs.Scheme.{mark_of}
 use Rattle.answer.specs.Delivery.{delivering, Delivers}
 use Rattle.answer.specs.declared.answer.Accepted.{Accepted}

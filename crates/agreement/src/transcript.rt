@@ -30,7 +30,8 @@ fn written(block: &[u8], count: u16) -> &[u8]
     &block[..usize::from(count)]
 }
 
-// A command, and what its response says.
+// A command, and what its response says. A proof knows of a parameter's slice that its entries are bytes, but not of a field's: so the
+// structs keep it.
 #[derive(Clone, Copy)]
 struct Command<'a> {
     code: u8,
@@ -61,24 +62,32 @@ impl<'a> Command<'a> {
         requires { reader.now ≡ card.now }
         ensures { Meets (conversation (mark_of scheme) self.entry.code self.entry.number self.entry.id.now reader.now card.now self.entry.payload.now) result out.old out.new }
     {
-        let Command {
-            code,
-            number,
-            id,
-            payload,
-        } = self;
         let mark = scheme.mark();
         let mut sealed = [0u8; 256];
-        let made = frame::encrypt_command(mark, code, number, id, reader, payload, &mut sealed)?;
+        let made = frame::encrypt_command(
+            mark,
+            self.code,
+            self.number,
+            self.id,
+            reader,
+            self.payload,
+            &mut sealed,
+        )?;
         let sealed = written(&sealed, made.length);
         let mut opened = [0u8; 256];
-        frame::decrypt_response(mark, code, id, card, sealed, &mut opened)?;
+        frame::decrypt_response(mark, self.code, self.id, card, sealed, &mut opened)?;
         let mut block = [0u8; 256];
         let answered = frame::build_secure_response_frame(
-            mark, code, number, id, card, payload, &mut block,
+            mark,
+            self.code,
+            self.number,
+            self.id,
+            card,
+            self.payload,
+            &mut block,
         )?;
         let block = written(&block, answered.length);
-        frame::decrypt_response(mark, code, id, reader, &block[2..], &mut opened)?;
+        frame::decrypt_response(mark, self.code, self.id, reader, &block[2..], &mut opened)?;
         Ok(Accepted::sized(join(sealed, block, out) as u16))
     }
 }
@@ -96,29 +105,38 @@ fn aes_credentials(random_2: &[u8], challenge_3c: &[u8]) -> [u8; 36]
 }
 
 impl<'a> Ends<'a> {
+    // One function for both exchanges and for `talk` would take four closures, each with a contract, at every call: longer than the calls. The
+    // proofs go by one argument (proofs/MessagePairs).
+
     // Random 1: the reader sends 1A, the card reads it and answers with 1B, and the reader checks that.
     fn exchange_1(self, random_1: &[u8], out: &mut [u8; 32]) -> Answer
         ensures { Meets (exchange1 (mark_of self.entry.scheme) self.entry.reader.now self.entry.card.now self.entry.idm.now self.entry.challenge_3c.now random_1.now) result out.old out.new }
     {
-        let Ends {
-            scheme,
-            reader,
-            card,
-            idm,
-            challenge_3c,
-        } = self;
-        let mark = scheme.mark();
+        let mark = self.scheme.mark();
         let mut sent = [0u8; 16];
-        let made = session::encrypt_challenge1a(mark, reader, idm, random_1, &mut sent)?;
+        let made = session::encrypt_challenge1a(mark, self.reader, self.idm, random_1, &mut sent)?;
         let sent = written(&sent, made.length);
         let mut random = [0u8; 16];
-        let read = session::decrypt_challenge1a(mark, card, idm, sent, &mut random)?;
+        let read = session::decrypt_challenge1a(mark, self.card, self.idm, sent, &mut random)?;
         let read_1 = written(&random, read.length);
         let mut block = [0u8; 16];
-        let answered =
-            session::encrypt_challenge1b(mark, card, idm, challenge_3c, read_1, &mut block)?;
+        let answered = session::encrypt_challenge1b(
+            mark,
+            self.card,
+            self.idm,
+            self.challenge_3c,
+            read_1,
+            &mut block,
+        )?;
         let block = written(&block, answered.length);
-        session::verify_challenge1b(mark, reader, idm, challenge_3c, random_1, block)?;
+        session::verify_challenge1b(
+            mark,
+            self.reader,
+            self.idm,
+            self.challenge_3c,
+            random_1,
+            block,
+        )?;
         Ok(Accepted::sized(join(sent, block, out) as u16))
     }
 
@@ -127,24 +145,36 @@ impl<'a> Ends<'a> {
         ensures meets { Meets (exchange2 (mark_of self.entry.scheme) self.entry.reader.now self.entry.card.now self.entry.idm.now self.entry.challenge_3c.now random_2.now) result out.old out.new }
         ensures random_after { IfOk result (λ _. random.new ≡ over (random2_read (mark_of self.entry.scheme) self.entry.reader.now self.entry.card.now self.entry.idm.now self.entry.challenge_3c.now random_2.now) random.old) }
     {
-        let Ends {
-            scheme,
-            reader,
-            card,
-            idm,
-            challenge_3c,
-        } = self;
-        let mark = scheme.mark();
+        let mark = self.scheme.mark();
         let mut sent = [0u8; 16];
-        let made =
-            session::encrypt_challenge2a(mark, card, idm, challenge_3c, random_2, &mut sent)?;
+        let made = session::encrypt_challenge2a(
+            mark,
+            self.card,
+            self.idm,
+            self.challenge_3c,
+            random_2,
+            &mut sent,
+        )?;
         let sent = written(&sent, made.length);
-        let read = session::decrypt_challenge2a(mark, reader, idm, challenge_3c, sent, random)?;
+        let read = session::decrypt_challenge2a(
+            mark,
+            self.reader,
+            self.idm,
+            self.challenge_3c,
+            sent,
+            random,
+        )?;
         let read_2 = written(random, read.length);
         let mut block = [0u8; 16];
-        let answered = session::encrypt_challenge2b(mark, reader, idm, read_2, &mut block)?;
+        let answered = session::encrypt_challenge2b(
+            mark,
+            self.reader,
+            self.idm,
+            read_2,
+            &mut block,
+        )?;
         let block = written(&block, answered.length);
-        session::verify_challenge2b(mark, card, idm, random_2, block)?;
+        session::verify_challenge2b(mark, self.card, self.idm, random_2, block)?;
         Ok(Accepted::sized(join(sent, block, out) as u16))
     }
 

@@ -10,4 +10,5 @@ unwrap-requires c = keys_ok _ _ _ _ (record { long = c.requires.random_2_len; by
 pub returns : goal.returns
 returns c =
     let g : Block 16 c.args.random_2.now = record { long = c.requires.random_2_len; bytes = λ j. omega (arith, c.type_inv.random_2 j) } in
-    keys_then_3c c.args.random_2.now c.args.challenge_3c.now _ _ _ _ g c.requires.challenge_3c_len refl c.derive_secure_session_keys.ensures c.copy_from_slice.ensures.after
+    keys_then_3c c.args.random_2.now c.args.challenge_3c.now _ _ _ _ g c.requires.challenge_3c_len refl c.derive_secure_session_keys.ensures
+    c.copy_from_slice.ensures.after

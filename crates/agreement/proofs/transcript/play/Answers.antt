@@ -9,7 +9,8 @@ use Rattle.agreement.proofs.transcript.play.Goals as goal
 pub returns-in_err-one : goal.returns-in_err-one
 returns-in_err-one c =
     let a = c.args in
-    derivation_refused a.mark a.keys.now a.areas.now a.services.now a.individual.now a.idm.now a.challenge_3c.now a.random_1.now a.random_2.now a.code a.number a.id.now a.session_key.now a.payload.now (length a.out.now)
+    derivation_refused a.mark a.keys.now a.areas.now a.services.now a.individual.now a.idm.now a.challenge_3c.now a.random_1.now
+    a.random_2.now a.code a.number a.id.now a.session_key.now a.payload.now (length a.out.now)
     c.in_err-one.field-0.0 c.in_err-one.ensures _ (search rules)
 
 pub written-requires : goal.written-requires
@@ -24,7 +25,8 @@ invariant_of-ends c =
     let a = c.args in
     let reader = keys_are _ _ _ _ c.in_ok-one.ensures _ c.written.ensures in
     let card = keys_are _ _ _ _ c.in_ok-other.ensures _ c.written-2.ensures in
-    let g = derivation_gives a.mark a.keys.now a.areas.now a.services.now a.individual.now (bytes _ c.type_inv.keys) (bytes _ c.type_inv.individual) 32 (sym c.in_ok-one.ensures.number) in
+    let g = derivation_gives a.mark a.keys.now a.areas.now a.services.now a.individual.now
+    (bytes _ c.type_inv.keys) (bytes _ c.type_inv.individual) 32 (sym c.in_ok-one.ensures.number) in
     record {
       same_keys = reader ∙ sym card;
       card_bytes = rw card g.bytes_are;
@@ -37,5 +39,6 @@ returns c =
     let a = c.args in
     let reader = keys_are _ _ _ _ c.in_ok-one.ensures _ c.written.ensures in
     let card = keys_are _ _ _ _ c.in_ok-other.ensures _ c.written-2.ensures in
-    played a.mark a.keys.now a.areas.now a.services.now a.individual.now a.idm.now a.challenge_3c.now a.random_1.now a.random_2.now a.code a.number a.id.now a.session_key.now a.payload.now (length a.out.now)
+    played a.mark a.keys.now a.areas.now a.services.now a.individual.now a.idm.now a.challenge_3c.now a.random_1.now
+    a.random_2.now a.code a.number a.id.now a.session_key.now a.payload.now (length a.out.now)
     c.in_ok-one.ensures _ _ reader card _ _ _ c.speak.ensures

@@ -33,26 +33,30 @@ opens_behind s code id key d z w r l m =
 pub returns-in_err-made : goal.returns-in_err-made
 unfolding conversation
 returns-in_err-made c =
-    let t = command c.mark-mark.result c.args.self.code c.args.self.number _ _ _ _ c.args.self.id_bytes (bytes _ c.type_inv.card) c.args.self.payload_bytes (omega arith) (omega arith) c.requires in
+    let t = command c.mark-mark.result c.args.self.code c.args.self.number _ _ _ _ c.args.self.id_bytes
+    (bytes _ c.type_inv.card) c.args.self.payload_bytes (omega arith) (omega arith) c.requires in
     rw (← c.mark-mark.ensures) (message_refused t c.in_err-made.field-0.0 c.in_err-made.ensures _ (search rules))
 
 pub written-sealed-requires : goal.written-sealed-requires
-written-sealed-requires c = (piece_fits _ _ _ _ c.in_ok-made.ensures c.encrypt_command.auto.out).0
+written-sealed-requires c = piece_fits _ _ _ _ c.in_ok-made.ensures c.encrypt_command.auto.out
 
 pub returns-in_err-decrypt_response : goal.returns-in_err-decrypt_response
 unfolding conversation
 returns-in_err-decrypt_response c =
-    let t = command c.mark-mark.result c.args.self.code c.args.self.number _ _ _ _ c.args.self.id_bytes (bytes _ c.type_inv.card) c.args.self.payload_bytes (omega arith) (omega arith) c.requires in
+    let t = command c.mark-mark.result c.args.self.code c.args.self.number _ _ _ _ c.args.self.id_bytes
+    (bytes _ c.type_inv.card) c.args.self.payload_bytes (omega arith) (omega arith) c.requires in
     never_unread t c.in_ok-made.ensures c.written-sealed.ensures c.in_err-decrypt_response.field-0.0 c.in_err-decrypt_response.ensures
 
 pub returns-in_err-answered : goal.returns-in_err-answered
 unfolding conversation
 returns-in_err-answered c =
-    let t = command c.mark-mark.result c.args.self.code c.args.self.number _ _ _ _ c.args.self.id_bytes (bytes _ c.type_inv.card) c.args.self.payload_bytes (omega arith) (omega arith) c.requires in
-    rw (← c.mark-mark.ensures) (answer_refused t c.in_ok-made.ensures c.written-sealed.ensures c.in_ok-decrypt_response.ensures refl c.in_err-answered.field-0.0 c.in_err-answered.ensures _ (search rules))
+    let t = command c.mark-mark.result c.args.self.code c.args.self.number _ _ _ _ c.args.self.id_bytes
+    (bytes _ c.type_inv.card) c.args.self.payload_bytes (omega arith) (omega arith) c.requires in
+    rw (← c.mark-mark.ensures) (answer_refused t c.in_ok-made.ensures c.written-sealed.ensures c.in_ok-decrypt_response.ensures refl
+    c.in_err-answered.field-0.0 c.in_err-answered.ensures _ (search rules))
 
 pub written-block-requires : goal.written-block-requires
-written-block-requires c = (piece_fits _ _ _ _ c.in_ok-answered.ensures c.build_secure_response_frame.auto.out).0
+written-block-requires c = piece_fits _ _ _ _ c.in_ok-answered.ensures c.build_secure_response_frame.auto.out
 
 pub slice_bounds-decrypt_response-count : goal.slice_bounds-decrypt_response-count
 slice_bounds-decrypt_response-count c = two _ _ _ _ _ _ _ _ _ _ c.in_ok-answered.ensures c.written-block.ensures
@@ -63,11 +67,16 @@ slice_bounds-decrypt_response-start c = two _ _ _ _ _ _ _ _ _ _ c.in_ok-answered
 pub returns-in_err-decrypt_response-2 : goal.returns-in_err-decrypt_response-2
 unfolding conversation
 returns-in_err-decrypt_response-2 c =
-    let t = command c.mark-mark.result c.args.self.code c.args.self.number _ _ _ _ c.args.self.id_bytes (bytes _ c.type_inv.card) c.args.self.payload_bytes (omega arith) (omega arith) c.requires in
-    never_turned_down t c.in_ok-made.ensures c.written-sealed.ensures c.in_ok-decrypt_response.ensures refl c.in_ok-answered.ensures c.written-block.ensures c.in_err-decrypt_response-2.field-0.0 (opens_behind _ _ _ _ _ _ _ _ c.decrypt_response.auto.out c.in_err-decrypt_response-2.ensures)
+    let t = command c.mark-mark.result c.args.self.code c.args.self.number _ _ _ _ c.args.self.id_bytes
+    (bytes _ c.type_inv.card) c.args.self.payload_bytes (omega arith) (omega arith) c.requires in
+    never_turned_down t c.in_ok-made.ensures c.written-sealed.ensures c.in_ok-decrypt_response.ensures refl
+    c.in_ok-answered.ensures c.written-block.ensures c.in_err-decrypt_response-2.field-0.0 (opens_behind _ _ _ _ _ _ _ _ c.decrypt_response.auto.out
+    c.in_err-decrypt_response-2.ensures)
 
 pub returns : goal.returns
 unfolding conversation
 returns c =
-    let t = command c.mark-mark.result c.args.self.code c.args.self.number _ _ _ _ c.args.self.id_bytes (bytes _ c.type_inv.card) c.args.self.payload_bytes (omega arith) (omega arith) c.requires in
-    rw (← c.mark-mark.ensures) (both_said t c.in_ok-made.ensures c.written-sealed.ensures c.in_ok-decrypt_response.ensures refl c.in_ok-answered.ensures c.written-block.ensures c.sized.ensures c.join.ensures)
+    let t = command c.mark-mark.result c.args.self.code c.args.self.number _ _ _ _ c.args.self.id_bytes
+    (bytes _ c.type_inv.card) c.args.self.payload_bytes (omega arith) (omega arith) c.requires in
+    rw (← c.mark-mark.ensures) (both_said t c.in_ok-made.ensures c.written-sealed.ensures c.in_ok-decrypt_response.ensures refl
+    c.in_ok-answered.ensures c.written-block.ensures c.sized.ensures c.join.ensures)
