@@ -7,15 +7,17 @@ use native.Mathlib.Omega.{arith}
 use borrow.Author.Tests.{eq-eqb, ne_eqb}
 use lib.Dec.{lit≤}
 use lib.ListN.{length, take, drop, length-append, drop_of_length-le}
+use Rattle.std.specs.Prelude.{Ok, Err}
+use Rattle.std.specs.Result.{IsOk}
 use Rattle.cipher.specs.Bytes.{Bytes}
 use Rattle.cipher.proofs.ByteLists.{Block}
-use Rattle.answer.specs.declared.answer.Answer.{Answer}
-use Rattle.answer.specs.Outcome.{choose, over, Meets}
-use Rattle.answer.proofs.Pieces.{copied_next}
+use Rattle.answer.specs.Outcome.{Answer, answer_number, choose, over, Meets}
+use Rattle.answer.proofs.Pieces.{placed_next}
+use Rattle.answer.proofs.Rows.{refusal_some}
 use Rattle.session.specs.Challenge.{making_2a, session_keys, deriving_session_keys}
 use Rattle.session.proofs.Exchanges as two
 use Rattle.agreement.specs.inner.Said.{exchange2, random2_read, conversation, credentials_of}
-use Rattle.agreement.proofs.Messages.{bytes_of, right_2, read_2}
+use Rattle.agreement.proofs.Messages.{zero_of, bytes_of, right_2, read_2}
 use Rattle.agreement.proofs.MessagePairs.{pair_zero}
 
 -- what was written over all of an output is the output
@@ -23,13 +25,21 @@ over_all : (b o : List ℕ) → length b ≡ length o → over b o ≡ b
 unfolding over
 over_all b o h = let l : length o ≤ length b = omega arith in rw (drop_of_length-le o l) (append-nil b)
 
--- session keys, and Challenge 3C copied behind them
+zero_ok : (r : Answer) → answer_number r ≡ 0 → IsOk r
+zero_ok (Ok v) h = refl
+zero_ok (Err e) h = absurd (refusal_some e h)
+
+-- session keys are not refused
+pub keys_ok : (x : List ℕ) (z w : List ℕ) (r : Answer) → Block 16 x → Meets (deriving_session_keys x 36) r z w → IsOk r
+keys_ok x z w r g m = zero_ok r (m.number ∙ zero_of _ _ (two.makes_session_keys x g 36 (lit≤ tt)))
+
+-- session keys, and Challenge 3C put behind them
 pub keys_then_3c : (x c3 z w last : List ℕ) (r : Answer) → Block 16 x → length c3 ≡ 4 → length z ≡ 36 → Meets (deriving_session_keys x 36) r z w
-    → last ≡ take (length (take 4 (drop 32 w))) c3 ++ drop (length c3) (take 4 (drop 32 w)) → take 32 w ++ (last ++ drop 4 (drop 32 w)) ≡ (deriving_session_keys x 32).bytes ++ c3
+    → last ≡ c3 → take 32 w ++ (last ++ drop 4 (drop 32 w)) ≡ (deriving_session_keys x 32).bytes ++ c3
 keys_then_3c x c3 z w last r g l3 lz m h =
     let b : length (session_keys x) ≡ 32 = (two.session_keys_block x g).long in
     let e : w ≡ over (session_keys x) z = m.output ∙ ap (λ (k : List ℕ). over k z) (bytes_of _ _ (two.makes_session_keys x g 36 (lit≤ tt))) in
-    copied_next (session_keys x) z w 32 4 b (omega arith) e c3 last l3 h
+    placed_next (session_keys x) z w 32 4 b (omega arith) e c3 last l3 h
     ∙ over_all (session_keys x ++ c3) z (length-append (session_keys x) c3 ∙ omega arith)
     ∙ ap (λ (k : List ℕ). k ++ c3) (sym (bytes_of _ _ (two.makes_session_keys x g 32 (lit≤ tt))))
 

@@ -8,8 +8,7 @@ use mir.Val.{Fits}
 use lib.ListN.{length, drop, get_or}
 use Rattle.cipher.specs.Bytes.{Bytes}
 use Rattle.cipher.proofs.ByteLists.{Block}
-use Rattle.answer.specs.declared.answer.Answer.{Answer}
-use Rattle.answer.specs.Outcome.{Outcome, accepted, Meets}
+use Rattle.answer.specs.Outcome.{Outcome, Answer, accepted, Meets}
 use Rattle.answer.proofs.Refusals.{accepted_zero}
 use Rattle.frame.specs.Scheme.{sealing, opening, responding}
 use Rattle.frame.proofs.Frames.{opens_again, frame_opens_again}

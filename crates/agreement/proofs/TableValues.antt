@@ -1,4 +1,4 @@
--- The table of document 01, one theorem. Assumes nothing.
+-- The table of docs/RULES.md, one theorem. Assumes nothing.
 use Rattle.frame.proofs.Corners as corners
 use Rattle.session.proofs.NodeLists as services
 use Rattle.agreement.specs.Table.{Table}

@@ -1,19 +1,23 @@
 -- A whole transcript: three pairs of messages after two derivations. Assumes nothing.
 use mathlib.Core.Path.{◌≡◌, refl, sym, ap, ap₂, ◌∙◌, subst}
 use mathlib.Core.List.{List, [], ◌∷◌, ◌++◌, append_assoc}
-use Prim.Native.Nat.{ℕ, zero, suc, ◌-◌, ◌≤◌}
+use Prim.Native.Nat.{ℕ, zero, suc, ◌≤◌}
 use native.Mathlib.Omega.{arith}
 use borrow.Author.Tests.{eq-eqb, ne_eqb}
-use lib.ListN.{length, take, drop}
-use Rattle.answer.specs.declared.answer.Answer.{Answer}
-use Rattle.answer.specs.Delivery.{delivering}
-use Rattle.answer.specs.Outcome.{Outcome, refused, accepted, choose, Meets}
+use lib.ListN.{length, take}
+use Rattle.std.specs.Prelude.{Ok, Err}
+use Rattle.answer.specs.Scheme.{mark_of}
+use Rattle.answer.specs.Delivery.{delivering, Delivers}
+use Rattle.answer.specs.declared.answer.Accepted.{Accepted}
+use Rattle.answer.specs.declared.refusal.Refusal.{Refusal}
+use Rattle.answer.specs.Refusal.{refusal_number}
+use Rattle.answer.specs.Outcome.{Outcome, Answer, refused, accepted, choose, over, Meets}
 use Rattle.answer.proofs.Outputs.{front}
 use Rattle.answer.proofs.Refusals.{accepted_zero}
-use Rattle.answer.proofs.Rows.{Refused, refused_meets, meets_refused}
+use Rattle.answer.proofs.Rows.{err_meets, refusal_some, delivers_meets}
 use Rattle.session.specs.Derivation.{Derived, Derives, derivation}
 use Rattle.session.specs.declared.keys.DerivedAuthKeys.{DerivedAuthKeys}
-use Rattle.session.proofs.SessionSteps.{fits_front}
+use Rattle.agreement.proofs.MessagePairs.{fits_front, piece_is}
 use Rattle.agreement.specs.Play.{unless, said_1a, said_1b, said_2a, said_2b, said_command, said_response, saying, playing}
 use Rattle.agreement.specs.inner.Said.{pair, holding, exchange1, random2_read, exchange2, conversation, credentials_of}
 
@@ -87,13 +91,9 @@ module _ (a b c d e f : Outcome) (room : ℕ) where
 
 -- ---- what two ends say
 
--- a refusal by a pair's number
-stopped : (o p : Outcome) (n : ℕ) (r : Answer) (out : List ℕ) → ((p.number ≡ 0 → ⊥) → o ≡ refused p.number) → n ≡ p.number → (n ≡ 0 → ⊥) → Refused n r → Meets o r out out
-stopped o p n r out s m h f = meets_refused o n r out (s (λ e. h (m ∙ e)) ∙ ap refused (sym m)) f
-
--- it was accepted
-pub went_on : (p : Outcome) (n : ℕ) → n ≡ p.number → n ≡ 0 → p.number ≡ 0
-went_on p n m e = sym m ∙ e
+-- a pair was refused
+stopped : (o p : Outcome) → ((p.number ≡ 0 → ⊥) → o ≡ refused p.number) → {z w : List ℕ} (e : Refusal) → Meets p (Err e) z w → {r : Answer} (out : List ℕ) → r ≡ Err e → Meets o r out out
+stopped o p s e m out q = rw (s (λ k. refusal_some e (m.number ∙ k)) ∙ ap refused (sym m.number)) (err_meets e out q)
 
 module _ (s : ℕ) (reader card idm c3 random1 random2 : List ℕ) (code number : ℕ) (id key payload : List ℕ) (room : ℕ) where
   abbrev Spoken : Outcome
@@ -130,50 +130,50 @@ module _ (s : ℕ) (reader card idm c3 random1 random2 : List ℕ) (code number 
   unfolding saying exchange1
   say_first = first_stops a b c d e f room
 
-  pub first_refused : (n : ℕ) (r : Answer) (out : List ℕ) → n ≡ E1.number → (n ≡ 0 → ⊥) → Refused n r → Meets Spoken r out out
-  first_refused n r out = stopped Spoken E1 n r out say_first
+  pub first_refused : {z w : List ℕ} (e : Refusal) → Meets E1 (Err e) z w → {r : Answer} (out : List ℕ) → r ≡ Err e → Meets Spoken r out out
+  first_refused = stopped Spoken E1 say_first
 
   module _ (z1 : E1.number ≡ 0) where
     say_second : (E2.number ≡ 0 → ⊥) → Spoken ≡ refused E2.number
     unfolding saying exchange1 exchange2 random2_read
     say_second = second_stops a b c d e f room z1
 
-    pub second_refused : (n : ℕ) (r : Answer) (out : List ℕ) → n ≡ E2.number → (n ≡ 0 → ⊥) → Refused n r → Meets Spoken r out out
-    second_refused n r out = stopped Spoken E2 n r out say_second
+    pub second_refused : {z w : List ℕ} (e : Refusal) → Meets E2 (Err e) z w → {r : Answer} (out : List ℕ) → r ≡ Err e → Meets Spoken r out out
+    second_refused = stopped Spoken E2 say_second
 
     module _ (z2 : E2.number ≡ 0) where
       say_third : (E3.number ≡ 0 → ⊥) → Spoken ≡ refused E3.number
       unfolding saying exchange1 exchange2 conversation credentials_of random2_read
       say_third = third_stops a b c d e f room z1 z2
 
-      pub third_refused : (n : ℕ) (r : Answer) (out : List ℕ) → n ≡ E3.number → (n ≡ 0 → ⊥) → Refused n r → Meets Spoken r out out
-      third_refused n r out = stopped Spoken E3 n r out say_third
+      -- p is the third pair as the ends had it
+      pub third_refused : {z w : List ℕ} (p : Outcome) → p ≡ E3 → (e : Refusal) → Meets p (Err e) z w → {r : Answer} (out : List ℕ) → r ≡ Err e → Meets Spoken r out out
+      third_refused p is e m = stopped Spoken E3 say_third e (rw is at m)
 
       say_all : E3.number ≡ 0 → (said : List ℕ) → said ≡ (E1.bytes ++ E2.bytes) ++ E3.bytes → Spoken ≡ delivering 0 said room
       unfolding saying exchange1 exchange2 conversation credentials_of random2_read
       say_all = all_said a b c d e f room z1 z2
 
-      -- p, the third pair as the ends had it, was accepted, and said, the bytes of the pairs, delivered
-      pub delivered : (p : Outcome) → p ≡ E3 → p.number ≡ 0 → (said : List ℕ) → said ≡ (E1.bytes ++ E2.bytes) ++ p.bytes → (r : Answer) (before after : List ℕ)
-          → Meets (delivering 0 said room) r before after → Meets Spoken r before after
-      delivered p is z said q r before after m =
-          rw (say_all (ap (λ (o : Outcome). o.number) (sym is) ∙ z) said (q ∙ ap (λ (o : Outcome). (E1.bytes ++ E2.bytes) ++ o.bytes) is)) m
+      -- x, y and v are what the pairs wrote, and all of it was delivered
+      pub delivered : {v1 v2 v3 : Accepted} {z1 w1 z2 w2 z3 w3 x y v : List ℕ} (p : Outcome) → p ≡ E3 → Meets E1 (Ok v1) z1 w1 → x ≡ take v1.length w1 → Meets E2 (Ok v2) z2 w2 → y ≡ take v2.length w2
+          → Meets p (Ok v3) z3 w3 → v ≡ take v3.length w3 → (said : List ℕ) → said ≡ (x ++ y) ++ v → length said ≤ 65535
+          → {r : Answer} {before after : List ℕ} → Delivers (delivering 0 said room) r before after → Meets Spoken r before after
+      delivered p is m1 q1 m2 q2 m3 q3 said q short d =
+          let b = ap₂ (λ (s t : List ℕ). s ++ t) (ap₂ (λ (s t : List ℕ). s ++ t) (q1 ∙ piece_is _ _ _ _ m1) (q2 ∙ piece_is _ _ _ _ m2)) (q3 ∙ piece_is _ _ _ _ m3 ∙ ap (λ (o : Outcome). o.bytes) is) in
+          rw (say_all (ap (λ (o : Outcome). o.number) (sym is) ∙ sym m3.number) said (q ∙ b)) (delivers_meets _ _ _ d short)
+
+-- what stands at the front of an output, as `&s[..n]` has it
+pub front_is : (b o s : List ℕ) (n : ℕ) → (n ≡ length b) × (s ≡ over b o) → take n s ≡ b
+front_is b o s n h = front b o s n (sym h.0) h.1
 
 -- ---- the derivations
 
-module _ (d : Derived) (r : DerivedAuthKeys) (z w : List ℕ) (m : Derives d r z w) where
-  -- `&w[0..n]`
-  pub keys_are : take (r.answer.length - 0) (drop 0 w) ≡ d.bytes
-  keys_are =
-      let n : r.answer.length - 0 ≡ r.answer.length = omega arith in
-      ap (λ (k : ℕ). take k w) n ∙ front d.bytes z w r.answer.length (sym m.length_is) m.output
+module _ (d : Derived) (k : DerivedAuthKeys) (z w : List ℕ) (m : Derives d (Ok k) z w) where
+  pub keys_are : (x : List ℕ) → x ≡ take k.length w → x ≡ d.bytes
+  keys_are x q = q ∙ front d.bytes z w k.length (sym m.length_is) m.output
 
-  pub keys_end : length w ≡ length z → r.answer.length ≤ length w
+  pub keys_end : length w ≡ length z → k.length ≤ length w
   keys_end l = let f = fits_front d.bytes z w m.output l in omega (arith, m.length_is, f)
-
--- both ends have the same
-pub same_keys : (d : Derived) (x y : List ℕ) → x ≡ d.bytes → y ≡ d.bytes → x ≡ y
-same_keys d x y p q = p ∙ sym q
 
 module _ (mark : ℕ) (keys areas services individual idm c3 random1 random2 : List ℕ) (code number : ℕ) (id key payload : List ℕ) (room : ℕ) where
   abbrev both : Derived
@@ -183,9 +183,9 @@ module _ (mark : ℕ) (keys areas services individual idm c3 random1 random2 : L
   Play = playing mark keys areas services individual idm c3 random1 random2 code number id key payload room
 
   -- a derivation was refused
-  pub derivation_refused : (k : ℕ) (r : Answer) (out : List ℕ) → k ≡ both.number → (k ≡ 0 → ⊥) → Refused k r → Meets Play r out out
+  pub derivation_refused : {z w : List ℕ} (e : Refusal) → Derives both (Err e) z w → {r : Answer} (out : List ℕ) → r ≡ Err e → Meets Play r out out
   unfolding playing unless choose
-  derivation_refused k r out e h f = rw (← e, ne_eqb k 0 h) (refused_meets k r out f)
+  derivation_refused e m out q = rw (← m.number, ne_eqb (refusal_number e) 0 (refusal_some e)) (err_meets e out q)
 
   goes_on : both.number ≡ 0 → Play ≡ saying both both idm c3 random1 random2 code number id key payload room
   unfolding playing unless choose
@@ -197,8 +197,8 @@ module _ (mark : ℕ) (keys areas services individual idm c3 random1 random2 : L
   by_keys d = refl
 
   -- both were accepted, and the ends spoke
-  pub played : (n scheme : ℕ) (x y : List ℕ) (r : Answer) (before after : List ℕ) → n ≡ both.number → n ≡ 0 → scheme ≡ both.scheme → x ≡ both.bytes → y ≡ both.bytes
-      → Meets (saying (holding scheme x) (holding scheme y) idm c3 random1 random2 code number id key payload room) r before after → Meets Play r before after
-  played n scheme x y r before after e z s p q m =
-      let k = rw (s, p, q) at m in
-      subst (λ (o : Outcome). Meets o r before after) (by_keys both ∙ sym (goes_on (sym e ∙ z))) k
+  pub played : {k : DerivedAuthKeys} {z w : List ℕ} → Derives both (Ok k) z w → (x y : List ℕ) → x ≡ both.bytes → y ≡ both.bytes → (r : Answer) (before after : List ℕ)
+      → Meets (saying (holding (mark_of k.scheme) x) (holding (mark_of k.scheme) y) idm c3 random1 random2 code number id key payload room) r before after → Meets Play r before after
+  played d x y p q r before after m =
+      let k = rw (d.scheme, p, q) at m in
+      subst (λ (o : Outcome). Meets o r before after) (by_keys both ∙ sym (goes_on (sym d.number))) k

@@ -1,4 +1,4 @@
--- Document 01, Contract reading, the words of statement 3: a reader and a card with the same inputs read each other's random blocks, accept
+-- The words of docs/RULES.md, "Statement 3": a reader and a card with the same inputs read each other's random blocks, accept
 -- exactly the right 1B and 2B, derive the same session keys, and opening exactly inverts sealing, for every code and all bytes. Assumes nothing.
 use Rattle.std.specs.Prelude.{ℕ, ◌<◌, ◌≡◌, List, ◌++◌, ◌↔◌, eqb, length}
 use Rattle.cipher.specs.Bytes.{Bytes}

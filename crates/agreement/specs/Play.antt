@@ -1,4 +1,4 @@
--- Statement 3 in code: what a reader and a card say to each other, as one byte string. Document 01, "Words of statement 3". Assumes nothing.
+-- Statement 3 in code: what a reader and a card say to each other, as one byte string. docs/RULES.md, "Statement 3". Assumes nothing.
 use Rattle.std.specs.Prelude.{ℕ, List, [], ◌∷◌, ◌++◌, eqb}
 use Rattle.answer.specs.Delivery.{delivering}
 use Rattle.answer.specs.Outcome.{Outcome, refused, choose}

@@ -1,4 +1,4 @@
--- Document 01, Contract reading, its table: values that the definitions have at given places. Assumes nothing.
+-- The values of docs/RULES.md, "Table", that the definitions have at given places. Assumes nothing.
 use Rattle.std.specs.Prelude.{ℕ, ◌≤◌, ◌≡◌, true, false, List, [], ◌∷◌, ◌++◌, length, replicate}
 use Rattle.frame.specs.AesFrame.{aes_iv}
 use Rattle.frame.specs.DesFrame.{des_mac, des_sealing}
