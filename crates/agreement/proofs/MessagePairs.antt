@@ -3,28 +3,21 @@
 use mathlib.Core.Path.{◌≡◌, refl, sym, ap, ap₂, ◌∙◌}
 use mathlib.Core.List.{List, ◌++◌}
 use mathlib.Core.Logic.{⊎_elim}
-use Prim.Native.Nat.{ℕ, ◌+◌, ◌≤◌, ◌<◌}
+use Prim.Native.Nat.{ℕ, ◌≤◌, ◌<◌}
 use native.Mathlib.Omega.{arith}
 use borrow.Author.Tests.{eq-eqb, ne_eqb}
-use lib.ListN.{length, take, drop, length-append}
+use lib.ListN.{length, take}
 use Rattle.std.specs.Prelude.{Ok, Err}
 use Rattle.cipher.proofs.Numbers.{le_or_lt}
 use Rattle.answer.specs.declared.answer.Accepted.{Accepted}
 use Rattle.answer.specs.declared.refusal.Refusal.{Refusal}
 use Rattle.answer.specs.Refusal.{refusal_number}
 use Rattle.answer.specs.Outcome.{Outcome, Answer, refused, accepted, choose, over, Meets}
-use Rattle.answer.proofs.Outputs.{front}
-use Rattle.answer.proofs.Rows.{err_meets, refusal_some, meets_accepted}
+use Rattle.answer.proofs.Outputs.{front, fits_front}
+use Rattle.answer.proofs.Rows.{err_meets, refusal_some, accepted_meets}
 use Rattle.answer.proofs.Refusals.{refused_number}
 use Rattle.agreement.specs.Play.{unless}
 use Rattle.agreement.specs.inner.Said.{pair}
-
--- what was written over the front of a string that kept its length fits it
-pub fits_front : (b o w : List ℕ) → w ≡ over b o → length w ≡ length o → length b ≤ length o
-unfolding over
-fits_front b o w e l =
-    let q : length b + length (drop (length b) o) ≡ length o = sym (length-append b (drop (length b) o)) ∙ ap length (sym e) ∙ l in
-    omega (arith, q)
 
 -- ---- the first bytes of a block that an outcome was written to, as many as the answer says
 
@@ -119,5 +112,5 @@ module _ (t : Message) where
             → (n ≡ length (x ++ v)) × (after ≡ over (x ++ v) before) → Meets Said (Ok a) before after
         both_said {n} {a} {before} {after} s j =
             let e = ap₂ (λ (s t : List ℕ). s ++ t) sent_is bytes_are in
-            meets_accepted Said 0 (t.A.bytes ++ answered.bytes) (Ok a) before after (pair_both t.A answered (sym m1.number) number_is)
-            refl (s.0 ∙ j.0 ∙ ap length e) s.1 (j.1 ∙ ap (λ (b : List ℕ). over b before) e)
+            rw (pair_both t.A answered (sym m1.number) number_is)
+            (accepted_meets 0 (t.A.bytes ++ answered.bytes) (Ok a) before after refl (s.0 ∙ j.0 ∙ ap length e) s.1 (j.1 ∙ ap (λ (b : List ℕ). over b before) e))

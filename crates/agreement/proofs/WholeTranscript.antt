@@ -12,12 +12,12 @@ use Rattle.answer.specs.declared.answer.Accepted.{Accepted}
 use Rattle.answer.specs.declared.refusal.Refusal.{Refusal}
 use Rattle.answer.specs.Refusal.{refusal_number}
 use Rattle.answer.specs.Outcome.{Outcome, Answer, refused, accepted, choose, over, Meets}
-use Rattle.answer.proofs.Outputs.{front}
+use Rattle.answer.proofs.Outputs.{front, fits_front}
 use Rattle.answer.proofs.Refusals.{accepted_zero}
 use Rattle.answer.proofs.Rows.{err_meets, refusal_some, delivers_meets}
 use Rattle.session.specs.Derivation.{Derived, Derives, derivation}
 use Rattle.session.specs.declared.keys.DerivedAuthKeys.{DerivedAuthKeys}
-use Rattle.agreement.proofs.MessagePairs.{fits_front, piece_is}
+use Rattle.agreement.proofs.MessagePairs.{piece_is}
 use Rattle.agreement.specs.Play.{unless, said_1a, said_1b, said_2a, said_2b, said_command, said_response, saying, playing}
 use Rattle.agreement.specs.inner.Said.{pair, holding, exchange1, random2_read, exchange2, conversation, credentials_of}
 

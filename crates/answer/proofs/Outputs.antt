@@ -11,6 +11,13 @@ pub length_over : (b o : List ℕ) → length b ≤ length o → length (over b 
 unfolding over
 length_over b o h = length-append b (drop (length b) o) ∙ ap (λ (k : ℕ). length b + k) (length-drop (length b) o) ∙ omega arith
 
+-- what was written over the front of a string that kept its length fits it
+pub fits_front : (b o w : List ℕ) → w ≡ over b o → length w ≡ length o → length b ≤ length o
+unfolding over
+fits_front b o w e l =
+    let q : length b + length (drop (length b) o) ≡ length o = sym (length-append b (drop (length b) o)) ∙ ap length (sym e) ∙ l in
+    omega (arith, q)
+
 -- an output is its own front, over itself
 pub over_self : (o : List ℕ) (n : ℕ) → n ≤ length o → o ≡ over (take n o) o
 unfolding over

@@ -8,7 +8,7 @@ use native.Mathlib.Nat.{sub-zero, min-eq_left, min-eq_right}
 use native.Mathlib.Omega.{arith}
 use borrow.Author.Tests.{eqb-true, eqb-false, eq-eqb, ne_eqb, lt-ltb, le-ltb}
 use lib.Dec.{eqb, lit≤}
-use lib.ListN.{length, take, drop, replicate, length-append, length-replicate}
+use lib.ListN.{length, take, drop, replicate, length-replicate}
 use lib.Seq.{take_all}
 use Rattle.std.specs.Prelude.{Result, Ok, Err, ◌≢◌}
 use Rattle.cipher.proofs.Numbers.{le_or_lt}
@@ -19,7 +19,7 @@ use Rattle.answer.specs.declared.scheme.Scheme.{Scheme}
 use Rattle.answer.specs.declared.scheme.Scheme.TheVariants.{Des, Aes128}
 use Rattle.answer.specs.Scheme.{mark_of}
 use Rattle.answer.specs.Refusal.{refusal_number}
-use Rattle.answer.specs.Outcome.{Outcome, Meets, Answer, answer_number, answer_length, answer_transaction, accepted, choose, decide, refused, first_of, over}
+use Rattle.answer.specs.Outcome.{Outcome, Meets, Answer, answer_number, answer_length, answer_transaction, accepted, choose, decide, refused, first_of}
 use Rattle.answer.specs.Delivery.{delivering}
 use Rattle.answer.specs.Tests.{isnt, either, both}
 use Rattle.answer.proofs.Rows.{refusal_some, err_meets, choose_most, numbered, first_holds}
@@ -181,13 +181,6 @@ pub made_refused : (scheme number : ℕ) (id credentials nodes : List ℕ) (e : 
 made_refused scheme number id credentials nodes e {r} q h = rw q h
 
 -- ---- the response step
-
--- what was written over the front of a string that kept its length fits it
-pub fits_front : (b o w : List ℕ) → w ≡ over b o → length w ≡ length o → length b ≤ length o
-unfolding over
-fits_front b o w e l =
-    let q : length b + length (drop (length b) o) ≡ length o = sym (length-append b (drop (length b) o)) ∙ ap length (sym e) ∙ l in
-    omega (arith, q)
 
 module _ (s : AuthenticatedContext) (code : ℕ) (d : List ℕ) (room : ℕ) where
   -- the opening into the work block

@@ -3,10 +3,10 @@ use borrow.Author.Rules.{rules}
 use native.Mathlib.Omega.{arith}
 use lib.ListN.{length, take, replicate}
 use lib.Seq.{length-take-le}
-use Rattle.answer.proofs.Outputs.{front}
+use Rattle.answer.proofs.Outputs.{front, fits_front}
 use Rattle.answer.proofs.Rows.{err_meets, delivers_meets}
 use Rattle.session.specs.Session.{opened}
-use Rattle.session.proofs.SessionSteps.{fits_front, receiving_refused, not_above, above}
+use Rattle.session.proofs.SessionSteps.{receiving_refused, not_above, above}
 use Rattle.session.proofs.context.AuthenticatedContext.receive.Goals as goal
 
 pub returns-in_err-opened : goal.returns-in_err-opened
