@@ -5,6 +5,7 @@ use lib.ListN.{length, take}
 use Rattle.frame.specs.Padding.{pad}
 use Rattle.answer.proofs.Pieces.{placed_next}
 use Rattle.frame.proofs.DesSeals.{length_padded, sealed_front}
+use Rattle.frame.proofs.AesSeals.{with_part}
 use Rattle.frame.proofs.Fronts.{accepts_front}
 use Rattle.frame.proofs.Pads.{pad_count_whole}
 use borrow.Author.Rules.{rules}
@@ -13,7 +14,8 @@ use Rattle.frame.proofs.des.seal_front.Goals as goal
 pub unwrap-requires : goal.unwrap-requires
 unwrap-requires c =
     let len = c.args.len in
-    accepts_front 8 _ _ _ c.encrypt_des_cbc_zero_iv.ensures.ok (omega (arith, c.copy_from_slice.auto.self)) (rw c.pad_to_des_block_size-end.ensures.0 (omega (arith, pad_count_whole len)))
+    let r = c.pad_to_des_block_size-end.result in
+    accepts_front 8 (r + 8) (with_part c.pad_to_des_block_size-end.new.out r (r + 8 - r) c.copy_from_slice.new.self) _ c.encrypt_des_cbc_zero_iv.ensures.ok (omega (arith, c.copy_from_slice.auto.self)) (rw c.pad_to_des_block_size-end.ensures.0 (omega (arith, pad_count_whole len)))
 
 pub returns : goal.returns
 returns c =
