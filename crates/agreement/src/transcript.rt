@@ -1,5 +1,6 @@
 // A reader and a card, played against each other. What one end makes, the other end reads, checks or opens. A refusal there would be the
-// answer; the contracts know no such answer, so it is proved that none comes.
+// answer; the contracts know no such answer, so it is proved that none comes. Nothing is allocated, as in the crates below, so each message goes into
+// an array of the most that it can have.
 ghost use Rattle.std.specs.Prelude.{◌+◌, ◌≤◌, ◌≡◌, ◌≢◌, ◌++◌, length, take, IfOk};
 ghost use Rattle.cipher.specs.Bytes.{Bytes};
 ghost use Rattle.answer.specs.Outcome.{Meets, over};

@@ -1,5 +1,6 @@
 // The operations of `cipher` as C functions, for the benchmark. Each copies its keys and its block to arrays, calls one function of `cipher` and
-// copies the result back; a slice that is shorter than a key or a block stands for itself followed by zeros.
+// copies the result back; a slice that is shorter than a key or a block stands for itself followed by zeros. C needs a function of
+// its own name for each operation.
 #![tactic(auto)]
 
 ghost use Rattle.std.specs.Prelude.{◌≡◌, replicate};

@@ -7,7 +7,7 @@ ghost use Rattle.cipher.specs.Fips46.{tdea2_encrypt, tdea2_decrypt};
 ghost use Rattle.cipher.specs.inner.DesTables.{delta_swap, transposed, held, holds, key_bits, sp_bits, pc2_bits};
 ghost use Rattle.cipher.specs.inner.DesWith.{des_with, des_back_with, keys_back};
 
-// ---- one block under a key
+// ---- one block under a key, each direction under its name; what they share is `under_keys` and `KeySchedule`
 
 pub fn encrypt_des_block(data: [u8; 8], key: [u8; 8]) -> [u8; 8]
     ensures { result ≡ des_encrypt key «data» }
@@ -354,6 +354,7 @@ fn delta_swap(x: u64, m: u64, s: u64) -> u64
     x ^ t ^ (t << s)
 }
 
+// std has no function for the halves of a word, nor for the word of two halves.
 fn low(x: u64) -> u32
     ensures { result ≡ x % 2 ^ 32 }
 {

@@ -92,6 +92,7 @@ pub(crate) struct SecureResponse<'a> {
     pub(crate) payload: &'a [u8],
 }
 
+// A plain text comes as the part of the work block that it fills, so its least length is asked of each function that reads from it.
 impl SecureResponseHeader {
     // The header that a plain text starts with.
     fn parse(plain: &[u8]) -> Self

@@ -1,4 +1,5 @@
-// One call for both schemes, by scheme mark: 1 is DES, 2 is AES, every other is refused (the framing half of mod.rs).
+// One call for both schemes, by scheme mark: 1 is DES, 2 is AES, every other is refused (the framing half of mod.rs). The parameters are those of C:
+// numbers and byte slices. Each call is its own match on the scheme, which is shorter than a function that would be given both calls.
 ghost use Rattle.std.specs.Prelude.{◌≡◌, length};
 ghost use Rattle.answer.specs.Outcome.{answer_number, answer_length, answer_transaction, Meets};
 ghost use Rattle.frame.specs.Forecast.{forecasting};

@@ -5,7 +5,7 @@ use answer::{Answer, Refusal};
 use textfile::FieldError;
 
 // An answer, of a call or stored: its number, how many bytes it has, the scheme mark, and the one other value (transaction number, node, index, or 1
-// for yes). What the operation does not have is 0.
+// for yes). What the operation does not have is 0. The files have numbers, so answers are compared as numbers.
 #[derive(Clone, Copy, PartialEq, Eq)]
 pub(crate) struct Given {
     pub(crate) number: u8,
@@ -101,7 +101,7 @@ impl<'a> Wanted<'a> {
 }
 
 // Whether a call with an output of `room` bytes gives this answer. The output lies within a page of bytes 0xA5, and the whole page has to be as it
-// was, but for the answer's bytes.
+// was, but for the answer's bytes. Both pages have a fixed size, since what is tested is room.
 fn in_room<F: Fn(&mut [u8]) -> Option<Given>>(
     call: &F,
     room: usize,

@@ -1,4 +1,5 @@
-// The operations of `frame`: a case's inputs, and the calls.
+// The operations of `frame`: a case's inputs, and the calls. A case has its scheme as a mark, any number: one that is not DES's goes to the AES call.
+// Each operation has other fields, so each is read on its own.
 use crate::call::{Given, Wanted, answered};
 use answer::Scheme;
 use textfile::{FieldError, Fields};

@@ -1,5 +1,6 @@
 // Challenges over slices, by scheme mark: 1 is DES, 2 is AES, every other is refused. `keys` are the derived keys: group and user key for
 // DES, group and individual key for AES. Challenge 3C has 4 bytes under both marks, and is not looked at for DES.
+// The parameters are those of C: numbers and byte slices. Each call is its own match, since the two contexts have blocks of their own length.
 ghost use Rattle.std.specs.Prelude.{[], ◌∷◌, length};
 ghost use Rattle.answer.specs.Outcome.{Meets, decide, row, accepted};
 ghost use Rattle.answer.specs.Tests.{isnt};

@@ -1,4 +1,5 @@
 // DES challenges (des.rs, from AuthenticationContext on). The context goes by value, and gives its blocks by methods.
+// Each method has the Rust's name, and one call of a cipher as its body, so no two are made one.
 ghost use Rattle.std.specs.Prelude.{◌≡◌};
 ghost use Rattle.cipher.specs.Bytes.{◌⊕◌};
 ghost use Rattle.cipher.specs.Fips46.{des_encrypt, tdea2_encrypt, tdea2_decrypt};

@@ -1,4 +1,5 @@
 // AES challenges and session keys (v2_aes.rs, AuthenticationContextV2Aes128). The context goes by value, and gives its blocks by methods.
+// Each method has the Rust's name, and one call of a cipher as its body, so no two are made one.
 ghost use Rattle.std.specs.Prelude.{◌≡◌};
 ghost use Rattle.cipher.specs.Bytes.{◌⊕◌};
 ghost use Rattle.cipher.specs.Fips197.{aes_encrypt, aes_decrypt};
