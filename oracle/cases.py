@@ -1,4 +1,4 @@
-"""Cases for crates/replay: put to the original, held to document 01, and written as the files that the program reads."""
+"""Cases for crates/replay: put to the original, held to the rules, and written as the files that the program reads."""
 import hashlib
 
 from original import answer, refusal, text
@@ -76,7 +76,7 @@ class Maker:
 
 class Cases:
     """The cases of some files. `files` has each file's title and fields; `file_of` names a case's file; `document` is
-    document 01's number where it decides by itself, else 0; `may_depart` says where that may leave the original."""
+    the rules' number where it decides by itself, else 0; `may_depart` says where that may leave the original."""
 
     def __init__(self, original, files, file_of, document, may_depart):
         self.original, self.files, self.heading, self.count = original, files, "", {}
@@ -89,7 +89,7 @@ class Cases:
 
     def add(self, operation, *inputs, expect=None, instead=None):
         """Puts a case to the original and stores it. `expect` is the number that the caller foresees; `instead` is
-        document 01's answer where the original has no such call."""
+        the rules' answer where the original has no such call."""
         own = answer(self.original, operation, inputs)
         wanted = self.document(operation, inputs)
         stored = refusal(operation, wanted) if wanted else own if instead is None else instead
@@ -98,7 +98,7 @@ class Cases:
             if own is None:
                 assert wanted == 17 or instead is not None, line
             elif instead is None and not self.may_depart(operation, inputs):
-                raise SystemExit(f"document 01 says {wanted}, the original {own[0]}: {' '.join(line)}")
+                raise SystemExit(f"the rules say {wanted}, the original {own[0]}: {' '.join(line)}")
             said = "cannot be asked" if own is None else "answers " + " ".join(text(f) for f in own)
             lines.append(f"# the original {said}")
             line.append("departs")

@@ -1,7 +1,7 @@
 """The cases about sealed frames.
 
-Where document 01 turns down a length that the original takes, the case has document 01's answer. Any other
-difference from document 01 stops the run.
+Where the rules turn down a length that the original takes, the case has the rules' answer. Any other
+difference from the rules stops the run.
 """
 from cases import AES, DES, Cases, Maker, Random, padded, xor_at
 
@@ -34,7 +34,7 @@ def file_of(operation, inputs):
 
 
 def by_length(operation, inputs):
-    """Document 01's number where a length alone turns the call down, else 0: rows 10 to 13, in its order."""
+    """The rules' number where a length alone turns the call down, else 0: rows 10 to 13, in its order."""
     n = len(inputs[-1])
     scheme = inputs[0] if operation in ("seal", "frame", "open") else None
     rows = {
@@ -52,7 +52,7 @@ def by_length(operation, inputs):
 
 
 def may_depart(operation, inputs):
-    """Where document 01 leaves the original: DES data of 256 bytes and more, packages over 4,096."""
+    """Where the rules leave the original: DES data of 256 bytes and more, packages over 4,096."""
     n = len(inputs[-1])
     if operation == "package":
         return n > 4096

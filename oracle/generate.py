@@ -1,4 +1,4 @@
-"""The cases of the differential runs: inputs at the limits of document 01 and around them, and others.
+"""The cases of the differential runs: inputs at the limits of the rules and around them, and others.
 
 Each case is made from a random stream of its own, so that it is the same whatever runs before it. Sealed data and
 challenges are the original's, as they are or damaged.

@@ -5,13 +5,13 @@
     oracle/make_cases.py --check    compare with the files that are there; status 1 where one differs
     oracle/make_cases.py --seed 2 --out DIR     other random bytes, another folder
 
-The cases are the same in every run with the same seed. Each is put to the original. Where document 01 departs from
-it, the case has document 01's answer, ends in `departs`, and stands below a comment with the original's own answer,
-or one that it cannot be asked. Any other difference from document 01 stops the run.
+The cases are the same in every run with the same seed. Each is put to the original. Where the rules depart from
+it, the case has the rules' answer, ends in `departs`, and stands below a comment with the original's own answer,
+or one that it cannot be asked. Any other difference from the rules stops the run.
 
 stdout is what crates/replay has to print where every case agrees. Its counts are those of the lines, and its
 CMACs are the stand-ins': no run of the program goes into it. RUNS are the checks that the program makes by itself,
-counted here from what document 01 asks.
+counted here from what the rules ask.
 """
 import argparse
 import os

@@ -1,11 +1,11 @@
-"""The oracle as a Python object, and what the original's answers are in document 01's numbers."""
+"""The oracle as a Python object, and what the original's answers are in the rules' numbers."""
 import os
 import subprocess
 
 HERE = os.path.dirname(os.path.abspath(__file__))
 ROOT = os.path.dirname(HERE)
 
-# What the original says, by operation, and document 01's number for it. The texts are the original's own.
+# What the original says, by operation, and the rules' number for it. The texts are the original's own.
 # Where it says anything else, `number` stops.
 NUMBERS = {
     "seal": {

@@ -1,7 +1,7 @@
 """What the archive has to answer: what the original answers, but for the departures that DEPARTURES lists.
 
-A departure names its row of docs/DIFFERENCES.md, says of an input whether it is one, and gives document 01's answer
-without asking the archive. Where the original leaves document 01 and no departure is listed, `Unlisted` is raised.
+A departure names its row of docs/DIFFERENCES.md, says of an input whether it is one, and gives the rules' answer
+without asking the archive. Where the original leaves the rules and no departure is listed, `Unlisted` is raised.
 """
 import os
 from typing import Callable, NamedTuple
@@ -16,7 +16,7 @@ COUNT_MOST = 65535
 
 
 class Unlisted(Exception):
-    """The original leaves document 01, and no departure is listed for it."""
+    """The original leaves the rules, and no departure is listed for it."""
 
 
 class Answer(NamedTuple):
@@ -113,7 +113,7 @@ def from_fields(operation, inputs, fields):
     return Answer(fields[0], data=fields[1])
 
 
-# ---- document 01 about inputs
+# ---- the rules about inputs
 
 # Sizes of credentials.
 KEYS = {DES: 8, AES: 36}
@@ -223,7 +223,7 @@ def not_listed(rules, operation, inputs):
     return node.to_bytes(2, "little") not in [state.nodes[i : i + 2] for i in range(0, len(state.nodes), 2)]
 
 
-# ---- document 01's answers
+# ---- the rules' answers
 
 
 def refuses(number):
@@ -313,7 +313,7 @@ def check_rows():
 
 
 def document(operation, inputs):
-    """Document 01's number where it is not left to the original, else 0."""
+    """The rules' number where it is not left to the original, else 0."""
     if operation in ("seal", "frame", "open", "auth2seal", "auth2open_des", "auth2open_aes", "package"):
         return frame_cases.by_length(operation, inputs)
     if operation == "send":
@@ -343,7 +343,7 @@ class Rules:
         return instead
 
     def answer(self, operation, inputs):
-        """Document 01's answer, before the output's size is looked at."""
+        """The rules' answer, before the output's size is looked at."""
         departure = next((d for d in DEPARTURES if d.holds(self, operation, inputs)), None)
         own = self.asked(operation, inputs)
         if departure:
@@ -352,7 +352,7 @@ class Rules:
             raise Unlisted("the original has no such call or input, and no departure is listed")
         wanted = receives(self, operation, inputs) if operation == "receive" else document(operation, inputs)
         if wanted and wanted not in (own, own.number):
-            raise Unlisted(f"document 01 gives {wanted}, the original {own}, and no departure is listed")
+            raise Unlisted(f"the rules give {wanted}, the original {own}, and no departure is listed")
         return own
 
     def opened(self, inputs):

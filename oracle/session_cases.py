@@ -1,6 +1,6 @@
 """The cases about keys, challenges and the session.
 
-Document 01 decides by itself rows 17, 1 and 2, the length of an opened response, and 14 before 15 in the response
+The rules decide by itself rows 17, 1 and 2, the length of an opened response, and 14 before 15 in the response
 step. Where the original answers something else, or has no such call or input, the case departs.
 """
 from cases import AES, DES, Cases, Maker, Random, xor_at
@@ -50,7 +50,7 @@ def challenge_number(scheme, idm, keys, three, *blocks):
 
 
 def document(operation, inputs):
-    """Document 01's number where it is not left to the original, else 0."""
+    """The rules' number where it is not left to the original, else 0."""
     if operation == "derive":
         return derive_number(*inputs)
     if operation in ("make", "read", "check"):
@@ -66,7 +66,7 @@ def document(operation, inputs):
 
 
 def may_depart(operation, inputs):
-    """Where document 01 leaves the original: rows 1 and 2, DES data of 256 bytes and more."""
+    """Where the rules leave the original: rows 1 and 2, DES data of 256 bytes and more."""
     if operation == "derive":
         return derive_number(*inputs) in (1, 2)
     if operation == "index":
