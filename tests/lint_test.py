@@ -121,7 +121,7 @@ FAULTS = [
     ("own-symbol", write(PROOF, "use Rattle.cipher.specs.Bytes.{bit_xor}\n")),
     # a name of the code that a clause reads in the place of one that is brought in
     ("hidden-name", add(CODE, "\npub const length: u8 = 3;\n")),
-    ("hidden-name", add("crates/session/src/keys.rt", "\npub static words_bytes: [u8; 2] = [1, 2];\n")),
+    ("hidden-name", add("crates/session/src/keys.rt", "\npub static key_length: [u8; 2] = [1, 2];\n")),
     ("hidden-name", add(CODE, "\npub(crate) struct Meets {\n    pub x: u8,\n}\n")),
     ("hidden-name", add(CODE, "\nghost use Rattle.cipher.specs.Other.{other};\n\npub fn f(x: u8, other: u8) -> u8\n    ensures { result ≡ other }\n{\n    other\n}\n")),
     # a proof in a contract or in a definition
