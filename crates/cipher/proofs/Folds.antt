@@ -3,13 +3,11 @@ use mathlib.Core.Path.{◌≡◌, refl, sym, ap, ◌∙◌}
 use mathlib.Core.List.{List, [], ◌∷◌, ◌++◌, map, reverse, reverse-cons}
 use Prim.Native.Nat.{ℕ, zero, suc, ◌+◌, ◌*◌, ◌/◌, ◌≤◌, ◌<◌}
 use native.Mathlib.Nat.{suc-mul, mul-div_cancel, div-eq_of_lt}
-use native.Mathlib.Numerals.{add-one}
 use native.Mathlib.Omega.{arith}
-use lib.ListN.{length, length-map, length-drop, take, drop, get_or}
-use lib.Seq.{length-take-le, take-suc}
+use lib.ListN.{length, length-map, length-drop, take, drop}
+use lib.Seq.{length-take-le}
 use Rattle.std.specs.List.{fold}
 use Rattle.std.specs.Simd.{first_chunks}
-use Rattle.std.proofs.lemmas.List.{map-append}
 use Rattle.cipher.specs.Fold.{under_from, under_each, back_from, under_each_back}
 use Rattle.cipher.proofs.ByteLists.{Block, Bytes-take, Bytes-drop}
 
@@ -21,21 +19,6 @@ module _ (CIPH : List ℕ → List ℕ → List ℕ) where
   fold_snoc : (s key : List ℕ) (keys : List (List ℕ)) → fold Turn s (keys ++ key ∷ []) ≡ CIPH key (fold Turn s keys)
   fold_snoc s key [] = refl
   fold_snoc s key (k ∷ keys) = fold_snoc (CIPH k s) key keys
-
-  -- a turn of a loop over the keys, and of one over an iterator
-  pub fold_more : (keys : List (List ℕ)) (i : ℕ) (s₀ s t key : List ℕ) → i < length keys → key ≡ get_or keys i key
-      → s ≡ fold Turn s₀ (take i keys) → t ≡ CIPH key s → t ≡ fold Turn s₀ (take (i + 1) keys)
-  fold_more keys i s₀ s t key h k e f =
-      f
-      ∙ ap (CIPH key) e
-      ∙ sym (fold_snoc s₀ key (take i keys))
-      ∙ ap (λ (l : List (List ℕ)). fold Turn s₀ (take i keys ++ l)) (ap (λ (x : List ℕ). x ∷ []) k)
-      ∙ ap (fold Turn s₀) (sym (take-suc keys i key h) ∙ ap (λ (n : ℕ). take n keys) (sym (add-one i)))
-
-  pub fold_next : {A : Type 0} (v : A → List ℕ) (xs : List A) (x : A) (s₀ s t : List ℕ) → s ≡ fold Turn s₀ (map v xs) → t ≡ CIPH (v x) s
-      → t ≡ fold Turn s₀ (map v (xs ++ x ∷ []))
-  fold_next v xs x s₀ s t e f =
-      f ∙ ap (CIPH (v x)) e ∙ sym (fold_snoc s₀ (v x) (map v xs)) ∙ ap (fold Turn s₀) (sym (map-append v xs (x ∷ [])))
 
   module _ (w : ℕ) where
     under_chunks : (n : ℕ) (s keys : List ℕ) → fold Turn s (first_chunks w n keys) ≡ under_from CIPH w s n keys

@@ -50,12 +50,9 @@ fn mac_from(keys: &KeySchedule, start: [u8; 16], s: &[u8]) -> [u8; 16]
     let (blocks, _) = front.as_chunks::<16>();
     let mut state = start;
     for block in blocks {
-        let input = bytes::xor_blocks(state, *block);
-        let next = keys.encrypt_block(input);
-        state = next;
+        state = keys.encrypt_block(bytes::xor_blocks(state, *block));
     }
-    let input = bytes::xor_blocks(state, last_block(keys, last));
-    keys.encrypt_block(input)
+    keys.encrypt_block(bytes::xor_blocks(state, last_block(keys, last)))
 }
 
 // The MAC of data.

@@ -7,6 +7,8 @@ ghost use Rattle.cipher.specs.Fips46.{tdea2_encrypt, tdea2_decrypt};
 ghost use Rattle.cipher.specs.inner.DesTables.{delta_swap, transposed, held, holds, key_bits, sp_bits, pc2_bits};
 ghost use Rattle.cipher.specs.inner.DesWith.{des_with, des_back_with, keys_back};
 
+use std::ops::Range;
+
 // ---- one block under a key, each direction under its name; what they share is `under_keys` and `KeySchedule`
 
 pub fn encrypt_des_block(data: [u8; 8], key: [u8; 8]) -> [u8; 8]
@@ -18,7 +20,7 @@ pub fn encrypt_des_block(data: [u8; 8], key: [u8; 8]) -> [u8; 8]
 pub fn decrypt_des_block(data: [u8; 8], key: [u8; 8]) -> [u8; 8]
     ensures { result ≡ des_decrypt key «data» }
 {
-    under_keys(RoundKeysBack::new(key), data)
+    under_keys(RoundKeys::new(key).rev(), data)
 }
 
 // ---- triple DES with two keys
@@ -155,21 +157,26 @@ impl KeySchedule {
     }
 }
 
-// The round keys of a key that serves one block, each made in its round: the processor makes the next ones while it waits for a round.
+// The round keys of a key that serves one block, each made in its round: the processor makes the next ones while it waits for a round. They are taken
+// from one end. C16 and D16 are C0 and D0, since the shifts make 28 places in all: so both ends begin at the same halves.
 #[derive(Drop)]
 struct RoundKeys {
-    halves: KeyHalves,
-    round: usize,
+    first: KeyHalves,
+    last: KeyHalves,
+    rounds: Range<usize>,
 }
 
 impl RoundKeys {
     fn new(key: [u8; 8]) -> RoundKeys
-        ensures round { result.round ≡ 0 }
-        ensures keys { keys_from shifts (bits 28 result.halves.c) (bits 28 result.halves.d) ≡ KS (to_bits key) }
+        ensures rounds { (result.rounds.start ≡ 0) × (result.rounds.end ≡ 16) }
+        ensures first { keys_from shifts (bits 28 result.first.c) (bits 28 result.first.d) ≡ KS (to_bits key) }
+        ensures last { keys_back 16 (bits 28 result.last.c) (bits 28 result.last.d) ≡ reverse (KS (to_bits key)) }
     {
+        let halves = KeyHalves::of_key(key);
         RoundKeys {
-            halves: KeyHalves::of_key(key),
-            round: 0,
+            first: halves,
+            last: halves,
+            rounds: 0..16,
         }
     }
 }
@@ -177,57 +184,28 @@ impl RoundKeys {
 impl Iterator for RoundKeys {
     type Item = u64;
 
-    ghost can_next = { λ s. s.round ≤ 16 };
+    ghost can_next = { λ s. (s.rounds.start ≤ 16) × (s.rounds.end ≡ 16) };
 
-    ghost next_gives = { YieldsFirstBy key_bits (λ s. keys_from (drop s.round shifts) (bits 28 s.halves.c) (bits 28 s.halves.d)) };
+    ghost next_gives = { YieldsFirstBy key_bits (λ s. keys_from (drop s.rounds.start shifts) (bits 28 s.first.c) (bits 28 s.first.d)) };
 
-    ghost remaining = { λ s. at_most (16 - s.round) };
+    ghost remaining = { λ s. at_most (s.rounds.end - s.rounds.start) };
 
     fn next(&mut self) -> Option<u64> {
-        if self.round == 16 {
-            return None;
-        }
-        self.halves = self.halves.shifted(self.round);
-        self.round += 1;
-        Some(self.halves.round_key())
+        let round = self.rounds.next()?;
+        self.first = self.first.shifted(round);
+        Some(self.first.round_key())
     }
 }
 
-// The same from the last round key to the first: C16 and D16 are C0 and D0, since the shifts make 28 places in all.
-#[derive(Drop)]
-struct RoundKeysBack {
-    halves: KeyHalves,
-    left: usize,
-}
+impl DoubleEndedIterator for RoundKeys {
+    ghost can_next_back = { λ s. (s.rounds.start ≡ 0) × (s.rounds.end ≤ 16) };
 
-impl RoundKeysBack {
-    fn new(key: [u8; 8]) -> RoundKeysBack
-        ensures left { result.left ≡ 16 }
-        ensures keys { keys_from shifts (bits 28 result.halves.c) (bits 28 result.halves.d) ≡ KS (to_bits key) }
-    {
-        RoundKeysBack {
-            halves: KeyHalves::of_key(key),
-            left: 16,
-        }
-    }
-}
+    ghost next_back_gives = { YieldsFirstBy key_bits (λ s. keys_back s.rounds.end (bits 28 s.last.c) (bits 28 s.last.d)) };
 
-impl Iterator for RoundKeysBack {
-    type Item = u64;
-
-    ghost can_next = { λ s. s.left ≤ 16 };
-
-    ghost next_gives = { YieldsFirstBy key_bits (λ s. keys_back s.left (bits 28 s.halves.c) (bits 28 s.halves.d)) };
-
-    ghost remaining = { λ s. at_most s.left };
-
-    fn next(&mut self) -> Option<u64> {
-        if self.left == 0 {
-            return None;
-        }
-        self.left -= 1;
-        let key = self.halves.round_key();
-        self.halves = self.halves.shifted_back(self.left);
+    fn next_back(&mut self) -> Option<u64> {
+        let round = self.rounds.next_back()?;
+        let key = self.last.round_key();
+        self.last = self.last.shifted_back(round);
         Some(key)
     }
 }

@@ -24,7 +24,7 @@ loop-block-preserved c =
     let e : 16 * (i + 1) ≡ 16 * i + 16 = omega arith in
     rw e
     (mac_step (cipher c.args.keys.now) 16 R128 (lit< tt) c.loop-block.invariant (omega (arith, c.saturating_sub.ensures)) _ _ _
-    (ap (λ (t : List (List ℕ)). get_or t i []) (b ∙ ap (first_chunks 16 k) f.front) ∙ front_block k i s (omega arith)) c.xor_blocks-input.ensures c.encrypt_block-next.ensures)
+    (ap (λ (t : List (List ℕ)). get_or t i []) (b ∙ ap (first_chunks 16 k) f.front) ∙ front_block k i s (omega arith)) c.xor_blocks.ensures c.encrypt_block-state.ensures)
 
 pub last_block-requires : goal.last_block-requires
 last_block-requires c = omega (arith, c.split_at.ensures.back_len, c.saturating_sub.ensures)
@@ -37,5 +37,5 @@ returns c =
     let l : length c.as_chunks.result.0.now ≡ k = omega (arith, c.as_chunks.ensures.front_len, f.front_len) in
     let i : 16 * c.loop-block.block-index ≡ k * 16 = omega (arith, c.loop-block.auto.block-index-end) in
     let last = c.last_block.ensures ∙ ap (λ (m : List ℕ). last_block (cipher c.args.keys.now) 16 R128 (16 - length m) m) f.back in
-    mac_done (cipher c.args.keys.now) 16 R128 (lit< tt) (rw i at c.loop-block.invariant) (omega (arith, c.saturating_sub.ensures)) _ _ _ last c.xor_blocks-input-2.ensures
+    mac_done (cipher c.args.keys.now) 16 R128 (lit< tt) (rw i at c.loop-block.invariant) (omega (arith, c.saturating_sub.ensures)) _ _ _ last c.xor_blocks-2.ensures
     c.encrypt_block.ensures

@@ -13,5 +13,5 @@ pub returns : goal.returns
 returns c =
     let h = c.under_keys.ensures in
     let k = drained h.0 h.1
-    (YieldsList-from_first key_bits (λ s. keys_from (drop s.round shifts) (bits 28 s.halves.c) (bits 28 s.halves.d)) _ (rw c.new.ensures.round c.new.ensures.keys)) in
+    (YieldsList-from_first key_bits (λ s. keys_from (drop s.rounds.start shifts) (bits 28 s.first.c) (bits 28 s.first.d)) _ (rw c.new.ensures.rounds.0 c.new.ensures.first)) in
     h.2 ∙ ap (λ (f : List ℕ → List ℕ). f c.args.«data») (with_schedule _ _ k)
