@@ -4,7 +4,7 @@ ghost use Rattle.std.specs.Prelude.{◌≡◌};
 use crate::refusal::Refusal;
 
 // length: how many bytes were written, or the size that a forecast gives; transaction_number: that of what was opened, or a session's after its
-// step. What an operation does not have is 0.
+// step. What an operation does not have is 0, as docs/NUMBERS.md has it: so one type, and one relation (Meets), serves every operation.
 #[derive(Clone, Copy, Debug, PartialEq, Eq)]
 pub struct Accepted {
     pub length: u16,

@@ -4,7 +4,7 @@ ghost use Rattle.answer.specs.Delivery.{delivering, Delivers};
 
 use crate::{Accepted, Answer, Refusal};
 
-// 16, else payload is copied over the front of out. An answer's length has 16 bits: of a longer payload it has the lowest 16.
+// Copies payload over the front of out, where it has room. An answer's length has 16 bits: of a longer payload it has the lowest 16.
 pub fn deliver(transaction_number: u16, payload: &[u8], out: &mut [u8]) -> Answer
     ensures { Delivers (delivering transaction_number payload.now (length out.old)) result out.old out.new }
 {

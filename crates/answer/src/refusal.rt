@@ -1,5 +1,5 @@
 // Why a call was turned down (docs/NUMBERS.md).
-ghost use Rattle.std.specs.Prelude.{◌≡◌};
+ghost use Rattle.std.specs.Prelude.{◌≡◌, ◌≢◌, MatchOption};
 ghost use Rattle.answer.specs.Refusal.{refusal_number, refusal_node};
 
 use std::error::Error;
@@ -63,13 +63,13 @@ impl Refusal {
         }
     }
 
-    // The node that lacks a key; 0 where another condition refused.
-    pub fn node(self) -> u16
-        ensures { result ≡ refusal_node self }
+    // The node that lacks a key; none where another condition refused.
+    pub fn node(self) -> Option<u16>
+        ensures { MatchOption result ((refusal_number self ≢ 4) × (refusal_node self ≡ 0)) (λ node. self ≡ Refusal.KeyMissing node) }
     {
         match self {
-            Refusal::KeyMissing(node) => node,
-            _ => 0,
+            Refusal::KeyMissing(node) => Some(node),
+            _ => None,
         }
     }
 }

@@ -19,6 +19,6 @@ pub extern "C" fn felica_derive_auth_keys(
 {
     match session::derive_auth_keys(mark, keys, areas, services, individual, out) {
         Ok(derived) => pack::pack_all(0, derived.scheme.mark(), derived.length, 0),
-        Err(refusal) => pack::pack_all(refusal.number(), 0, 0, refusal.node()),
+        Err(refusal) => pack::pack_all(refusal.number(), 0, 0, refusal.node().unwrap_or(0)),
     }
 }

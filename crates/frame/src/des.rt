@@ -131,7 +131,7 @@ fn same_id(x: [u8; 6], y: [u8; 6]) -> bool
     u64::from_le_bytes(answer::fit(&x)) == u64::from_le_bytes(answer::fit(&y))
 }
 
-// 14, else the payload goes out.
+// The payload goes out, if its ID is the one wanted.
 fn deliver_checked(
     head: SecureResponseHeader,
     payload: &[u8],
@@ -147,7 +147,7 @@ fn deliver_checked(
 }
 
 impl<'a> SecureResponse<'a> {
-    // The response in a plain text that ends with its MAC; 13 where that differs.
+    // The response in a plain text that ends with its MAC, if that is the right one.
     pub(crate) fn parse(code: u8, plain: &'a [u8]) -> Result<Self, Refusal>
         requires { 16 ≤ length plain.now }
         ensures { ParsesOr13 code plain.entry result }
@@ -301,7 +301,7 @@ fn seal_front(code: u8, key: [u8; 8], out: &mut [u8], len: usize) -> usize
     sealed
 }
 
-// 12, else the size of a sealed payload of n bytes.
+// The size of a sealed payload of n bytes, if they are not too many.
 pub(crate) fn size_des(n: usize) -> Result<usize, Refusal>
     ensures { HasSize 232 n (des_size n) result }
 {
@@ -323,7 +323,7 @@ fn write_des(code: u8, head: SecureResponseHeader, key: [u8; 8], payload: &[u8],
     seal_front(code, key, out, payload.len() + 8);
 }
 
-// Seals a command or a response with its number and ID under the session key, over the front of a work block; or 17 and 12 by lengths.
+// Seals a command or a response with its number and ID under the session key, over the front of a work block, if the lengths are right.
 fn seal_des(
     code: u8,
     number: u16,

@@ -1,4 +1,5 @@
-// Registration packages (the end of des.rs). A package may have 4,104 bytes, so it is made in the caller's output, and 16 is found first.
+// Registration packages (the end of des.rs). A package may have 4,104 bytes, so it is made in the caller's output,
+// and an output that is too small is found first. Both functions below ask for a whole block at least: their caller refuses an empty package.
 ghost use Rattle.std.specs.Prelude.{◌≡◌, ◌+◌, ◌%◌, ◌≤◌, length};
 ghost use Rattle.answer.specs.Outcome.{Meets, over};
 ghost use Rattle.frame.specs.Package.{package_cipher, package_mac, packaged, packaging};

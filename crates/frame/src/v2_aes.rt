@@ -61,7 +61,8 @@ fn build_initial_vector_v2_aes128(
     iv
 }
 
-// The block in front of the payload is 19, IV bytes 1..13 and the payload's length, high byte first.
+// The block in front of the payload is the byte 0x19, IV bytes 1 to 13 and the payload's length in two bytes, the high one first: of a length
+// above 65,535 the lowest 16 bits, as the definition has it, so that no length is asked for.
 fn calculate_mac_v2_aes128(iv: [u8; 16], payload: &[u8], mac_key: [u8; 16]) -> [u8; 8]
     ensures { result ≡ aes_mac mac_key iv payload.now }
 {
@@ -75,7 +76,7 @@ fn calculate_mac_v2_aes128(iv: [u8; 16], payload: &[u8], mac_key: [u8; 16]) -> [
 
 // ---- sealing
 
-// 12, else the size of a sealed payload of n bytes.
+// The size of a sealed payload of n bytes, if they are not too many.
 pub(crate) fn size_aes(n: usize) -> Result<usize, Refusal>
     ensures { HasSize 243 n (aes_size n) result }
 {
@@ -109,7 +110,7 @@ fn write_aes(
     out[end..n + 10].copy_from_slice(&mac);
 }
 
-// Seals a command or a response over the front of a work block; or 17 and 12 by lengths. The credentials are cipher key, MAC key and
+// Seals a command or a response over the front of a work block, if the lengths are right. The credentials are cipher key, MAC key and
 // Challenge 3C.
 fn seal_aes(
     code: u8,
@@ -148,7 +149,7 @@ pub fn encrypt_secure_request_v2_aes128(
 
 // ---- opening
 
-// 13, else payload goes out. All bytes of the MACs are compared.
+// The payload goes out, if its MAC is the one wanted. All bytes of the MACs are compared.
 fn accept_aes(number: u16, mac: [u8; 8], wanted: [u8; 8], payload: &[u8], out: &mut [u8]) -> Answer
     ensures { Delivers (aes_accepting number mac wanted payload.now (length out.old)) result out.old out.new }
 {
@@ -158,7 +159,7 @@ fn accept_aes(number: u16, mac: [u8; 8], wanted: [u8; 8], payload: &[u8], out: &
     answer::deliver(number, payload, out)
 }
 
-// The parts of sealed data: number, cipher payload and cipher MAC; or 11 and 12 by its length.
+// The parts of sealed data, if its length is right: number, cipher payload and cipher MAC.
 fn split_sealed(data: &[u8]) -> Result<(u16, &[u8], [u8; 8]), Refusal>
     ensures { Splits «data».now result }
 {
