@@ -351,7 +351,8 @@ class Repository:
 
 
 def contracts(repo):
-    """A public or exported function has no requires but that a closure may be called, and has an ensures. Programs, and crates that read and write for them, may go without the second."""
+    """A public or exported function has no requires but that a closure may be called, and has an ensures. Programs, and crates that read and
+    write for them, may go without the second."""
     libraries = repo.libraries()
     for f in repo.rt:
         for g in functions(f.text):
@@ -574,8 +575,8 @@ def words(repo):
                 repo.fault("machine-path", path, number, line)
 
 
-RULES = (crates, words, contracts, own_definitions, own_imports, hidden_names, proofs_cited, inner_contracts, inner_definitions, inner_theorems, layers,
-         tables, edits)
+RULES = (crates, words, contracts, own_definitions, own_imports, hidden_names, proofs_cited, inner_contracts, inner_definitions, inner_theorems,
+         layers, tables, edits)
 
 
 def check(tree):
