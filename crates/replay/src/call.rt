@@ -2,7 +2,7 @@
 ghost use Rattle.std.specs.Prelude.{◌≤◌, length};
 
 use answer::{Answer, Refusal};
-use textfile::FieldError;
+use textfile::{FieldError, Fields};
 
 // An answer, of a call or stored: its number, how many bytes it has, the scheme mark, and the one other value (transaction number, node, index, or 1
 // for yes). What the operation does not have is 0. The files have numbers, so answers are compared as numbers.
@@ -52,20 +52,34 @@ pub(crate) fn answered(answer: Answer) -> Option<Given> {
 }
 
 // What a call of a case has to give: an answer, and bytes.
-#[derive(Clone, Copy)]
-pub(crate) struct Wanted<'a> {
+#[derive(Drop)]
+pub(crate) struct Wanted {
     pub(crate) answer: Given,
-    bytes: &'a [u8],
+    bytes: Vec<u8>,
 }
 
-impl<'a> Wanted<'a> {
-    // What is stored in a case. It is malformed if no answer can be so: a refusal is its number only, and the node with 4.
+impl Wanted {
+    // An answer that has bytes, or a refusal: the fields where its number and its bytes are.
+    pub(crate) fn bytes(
+        fields: &Fields,
+        number: usize,
+        bytes: usize,
+    ) -> Result<Wanted, FieldError> {
+        Wanted::new(fields.number(number)?, 0, 0, fields.bytes(bytes)?)
+    }
+
+    // An answer with a value and no bytes.
+    pub(crate) fn value(fields: &Fields, number: u8, value: u16) -> Result<Wanted, FieldError> {
+        Wanted::new(number, value, 0, Vec::new(*fields.texts.allocator()))
+    }
+
+    // What is stored in a case. It is malformed if no answer can be so: a refusal is its number only, and the node with 4, "a key is missing".
     pub(crate) fn new(
         number: u8,
         value: u16,
         scheme: u8,
-        bytes: &'a [u8],
-    ) -> Result<Wanted<'a>, FieldError> {
+        bytes: Vec<u8>,
+    ) -> Result<Wanted, FieldError> {
         let length = u16::try_from(bytes.len()).map_err(|_| FieldError::Malformed)?;
         let answer = Given {
             number,
@@ -85,12 +99,12 @@ impl<'a> Wanted<'a> {
         }
     }
 
-    // Whether a call gives this, and not None, which no answer is: with an output of the answer's size, of one byte more, of 4,608 bytes, and of one byte less, which is answered with
-    // 16. A call without an output is asked anew.
-    pub(crate) fn is_given<F: Fn(&mut [u8]) -> Option<Given>>(self, call: F) -> bool
+    // Whether a call gives this, and not None, which no answer is: with an output of the answer's size, of one byte more, of 4,608 bytes, and of one
+    // byte less, which is answered with "the output is too small". A call without an output is asked anew.
+    pub(crate) fn is_given<F: Fn(&mut [u8]) -> Option<Given>>(&self, call: F) -> bool
         requires { F.IsAlwaysCallable call }
     {
-        let bytes = self.bytes;
+        let bytes = self.bytes.as_slice();
         let n = bytes.len();
         n < 4608
             && in_room(&call, n, self.answer, bytes)

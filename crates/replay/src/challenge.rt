@@ -2,14 +2,38 @@
 use crate::call::{Wanted, answered};
 use textfile::{FieldError, Fields};
 
+// The fields 2 to 6 of a challenge's case.
+#[derive(Drop)]
+struct Inputs {
+    scheme: u8,
+    idm: Vec<u8>,
+    keys: Vec<u8>,
+    challenge_3c: Vec<u8>,
+    // The random, or of a challenge that is read its block.
+    text: Vec<u8>,
+}
+
+impl Inputs {
+    fn read(fields: &Fields) -> Result<Inputs, FieldError> {
+        Ok(Inputs {
+            scheme: fields.number(2)?,
+            idm: fields.bytes(3)?,
+            keys: fields.bytes(4)?,
+            challenge_3c: fields.bytes(5)?,
+            text: fields.bytes(6)?,
+        })
+    }
+}
+
 pub(crate) fn make(fields: &Fields) -> Result<bool, FieldError> {
-    let scheme = fields.number(2)?;
-    let idm = fields.bytes(3)?;
-    let keys = fields.bytes(4)?;
-    let challenge_3c = fields.bytes(5)?;
-    let random = fields.bytes(6)?;
-    let bytes = fields.bytes(8)?;
-    let wanted = Wanted::new(fields.number(7)?, 0, 0, &bytes)?;
+    let wanted = Wanted::bytes(fields, 7, 8)?;
+    let Inputs {
+        scheme,
+        idm,
+        keys,
+        challenge_3c,
+        text: random,
+    } = Inputs::read(fields)?;
     Ok(match fields.get(1)? {
         "1a" => wanted.is_given(|out| {
             answered(session::encrypt_challenge1a(scheme, &keys, &idm, &random, out))
@@ -28,13 +52,14 @@ pub(crate) fn make(fields: &Fields) -> Result<bool, FieldError> {
 }
 
 pub(crate) fn read(fields: &Fields) -> Result<bool, FieldError> {
-    let scheme = fields.number(2)?;
-    let idm = fields.bytes(3)?;
-    let keys = fields.bytes(4)?;
-    let challenge_3c = fields.bytes(5)?;
-    let block = fields.bytes(6)?;
-    let bytes = fields.bytes(8)?;
-    let wanted = Wanted::new(fields.number(7)?, 0, 0, &bytes)?;
+    let wanted = Wanted::bytes(fields, 7, 8)?;
+    let Inputs {
+        scheme,
+        idm,
+        keys,
+        challenge_3c,
+        text: block,
+    } = Inputs::read(fields)?;
     Ok(match fields.get(1)? {
         "1a" => wanted.is_given(|out| {
             answered(session::decrypt_challenge1a(scheme, &keys, &idm, &block, out))
@@ -47,13 +72,15 @@ pub(crate) fn read(fields: &Fields) -> Result<bool, FieldError> {
 }
 
 pub(crate) fn check(fields: &Fields) -> Result<bool, FieldError> {
-    let scheme = fields.number(2)?;
-    let idm = fields.bytes(3)?;
-    let keys = fields.bytes(4)?;
-    let challenge_3c = fields.bytes(5)?;
-    let random = fields.bytes(6)?;
+    let wanted = Wanted::value(fields, fields.number(8)?, 0)?;
     let block = fields.bytes(7)?;
-    let wanted = Wanted::new(fields.number(8)?, 0, 0, &[])?;
+    let Inputs {
+        scheme,
+        idm,
+        keys,
+        challenge_3c,
+        text: random,
+    } = Inputs::read(fields)?;
     Ok(match fields.get(1)? {
         "1b" => wanted.is_given(|_| {
             answered(session::verify_challenge1b(
@@ -77,7 +104,6 @@ pub(crate) fn session_keys(fields: &Fields) -> Result<bool, FieldError> {
     fields.bytes(1)?;
     fields.bytes(2)?;
     let random = fields.bytes(3)?;
-    let bytes = fields.bytes(5)?;
-    let wanted = Wanted::new(fields.number(4)?, 0, 0, &bytes)?;
+    let wanted = Wanted::bytes(fields, 4, 5)?;
     Ok(wanted.is_given(|out| answered(session::derive_secure_session_keys(&random, out))))
 }

@@ -1,31 +1,27 @@
 // The session's corners: its number at both ends of its range, its count of responses turned away at the top, and the order in which a response is
 // refused.
-ghost use Rattle.std.specs.Prelude.{◌≤◌};
-
 use crate::note::Checks;
 use answer::{Accepted, Refusal, Scheme};
 use session::AuthenticatedContext;
 use std::io;
 
-fn credentials_size(scheme: Scheme) -> usize
-    ensures { result ≤ 36 }
-{
+static CREDENTIALS: [u8; 36] = [0x5A; 36];
+
+fn credentials(scheme: Scheme) -> &'static [u8] {
     match scheme {
-        Scheme::Des => 8,
-        Scheme::Aes128 => 36,
+        Scheme::Des => &CREDENTIALS[..8],
+        Scheme::Aes128 => &CREDENTIALS,
     }
 }
 
 // A new session, with no nodes: one check. There is none where it does not hold.
-fn begin<R: Print>(
+fn begin<R: Print + AllocGlobal>(
     checks: &mut Checks<R>,
     scheme: Scheme,
     number: u16,
 ) -> io::Result<Option<AuthenticatedContext>> {
-    let credentials = [0x5Au8; 36];
-    let n = credentials_size(scheme);
     let id = b"\x11\x12\x13\x14\x15\x16";
-    let made = AuthenticatedContext::new(scheme.mark(), number, id, &credentials[..n], &[]).ok();
+    let made = AuthenticatedContext::new(scheme.mark(), number, id, credentials(scheme), &[]).ok();
     checks.holds(made.is_some())?;
     Ok(made)
 }
@@ -34,8 +30,8 @@ fn is_left(context: AuthenticatedContext, number: u16, count: u16) -> bool {
     context.transaction_number() == number && context.turned_away() == count
 }
 
-// 65,537 responses of 9 bytes, each turned away with 11: the count ends at 65,535.
-pub(crate) fn many<R: Print>(checks: &mut Checks<R>) -> io::Result<()> {
+// 65,537 responses of 9 bytes, each turned away as too short: the count ends at 65,535.
+pub(crate) fn many<R: Print + AllocGlobal>(checks: &mut Checks<R>) -> io::Result<()> {
     let Some(mut context) = begin(checks, Scheme::Aes128, 5)? else {
         return Ok(());
     };
@@ -51,7 +47,7 @@ pub(crate) fn many<R: Print>(checks: &mut Checks<R>) -> io::Result<()> {
 }
 
 // The number step: the number that a session is given before it, if any; whether there is a next number, and the session's number after it.
-pub(crate) fn stepping<R: Print>(checks: &mut Checks<R>) -> io::Result<()> {
+pub(crate) fn stepping<R: Print + AllocGlobal>(checks: &mut Checks<R>) -> io::Result<()> {
     let steps = [
         (None, true, 65535),
         (None, false, 65535),
@@ -106,8 +102,12 @@ fn leaves(refusal: Option<Refusal>, number: u16, count: u16) -> Outcome {
 }
 
 // The response step, in one scheme: the number that the session is given before it, if any; the response, how many bytes the output has, and what is
-// to come of it. Another ID is 14 in DES and 13 in AES, and comes before 15; 15 comes before 16; 16 is not counted.
-pub(crate) fn responses<R: Print>(checks: &mut Checks<R>, scheme: Scheme) -> io::Result<()> {
+// to come of it. Another ID is told by the ID in DES and by the MAC in AES, and comes before a number that is not above; that comes before an output
+// that is too small, which is not counted.
+pub(crate) fn responses<R: Print + AllocGlobal>(
+    checks: &mut Checks<R>,
+    scheme: Scheme,
+) -> io::Result<()> {
     let other = match scheme {
         Scheme::Des => Some(Refusal::IdDiffers),
         Scheme::Aes128 => Some(Refusal::MacDiffers),
@@ -139,7 +139,7 @@ pub(crate) fn responses<R: Print>(checks: &mut Checks<R>, scheme: Scheme) -> io:
 }
 
 // A response of eight bytes, received with an output of `room` bytes: what is written is the payload or nothing.
-fn receive<R: Print>(
+fn receive<R: Print + AllocGlobal>(
     checks: &mut Checks<R>,
     context: &mut AuthenticatedContext,
     scheme: Scheme,
@@ -147,10 +147,9 @@ fn receive<R: Print>(
     room: usize,
     outcome: Outcome,
 ) -> io::Result<()> {
-    let mut sealed = [0u8; 64];
-    let n = seal(scheme, response, &mut sealed);
+    let sealed = seal(checks, scheme, response)?;
     let mut out = [0xA5u8; 8];
-    let received = context.apply_response(0x43, &sealed[..n], &mut out[..room.min(8)]);
+    let received = context.apply_response(0x43, &sealed, &mut out[..room.min(8)]);
     let (wanted, written) = match outcome.refusal {
         None => {
             let accepted = Accepted {
@@ -165,24 +164,23 @@ fn receive<R: Print>(
     checks.holds(received == wanted && is_left && out == written)
 }
 
-// Seals a response, and answers how many bytes it has: none where sealing refuses.
-fn seal(scheme: Scheme, response: Response, out: &mut [u8; 64]) -> usize
-    ensures { result ≤ 64 }
-{
-    let credentials = [0x5Au8; 36];
-    let c = credentials_size(scheme);
+// A sealed response. Where sealing refuses it is empty, which no outcome here allows: its refusal is "too short".
+fn seal<R: Print + AllocGlobal>(
+    checks: &Checks<R>,
+    scheme: Scheme,
+    response: Response,
+) -> io::Result<Vec<u8>> {
     let id = [0x11, 0x12, 0x13, 0x14, 0x15, response.id];
+    let mut out = checks.output(64)?;
     let made = frame::encrypt_command(
         scheme.mark(),
         0x43,
         response.number,
         &id,
-        &credentials[..c],
+        credentials(scheme),
         b"payload8",
-        out,
+        &mut out,
     );
-    match made {
-        Ok(accepted) => usize::from(accepted.length).min(64),
-        Err(_) => 0,
-    }
+    out.truncate(made.map_or(0, |accepted| usize::from(accepted.length)));
+    Ok(out)
 }

@@ -8,12 +8,11 @@ pub(crate) fn keys(fields: &Fields) -> Result<bool, FieldError> {
     let areas = fields.bytes(3)?;
     let services = fields.bytes(4)?;
     let individual = fields.bytes(5)?;
-    let bytes = fields.bytes(9)?;
     let wanted = Wanted::new(
         fields.number(6)?,
         fields.number(7)?,
         fields.number(8)?,
-        &bytes,
+        fields.bytes(9)?,
     )?;
     Ok(wanted.is_given(|out| {
         let derived = session::derive_auth_keys(mark, &keys, &areas, &services, &individual, out);
@@ -31,6 +30,6 @@ pub(crate) fn keys(fields: &Fields) -> Result<bool, FieldError> {
 
 pub(crate) fn key_free(fields: &Fields) -> Result<bool, FieldError> {
     let service = fields.number(1)?;
-    let wanted = Wanted::new(0, fields.number(2)?, 0, &[])?;
+    let wanted = Wanted::value(fields, 0, fields.number(2)?)?;
     Ok(wanted.is_given(|_| Some(Given::said(0, u16::from(session::is_key_free_service(service))))))
 }

@@ -1,48 +1,23 @@
 // A reader and a card with the same keys, through every call: each is accepted, and both get the same.
-ghost use Rattle.std.specs.Prelude.{◌≤◌};
-
 use crate::note::Checks;
-use answer::{Answer, Refusal, Scheme};
+use answer::{Accepted, Answer, Refusal, Scheme};
 use session::DerivedAuthKeys;
 use std::io;
 
-// The first n bytes.
-fn front(bytes: &[u8], n: usize) -> &[u8] {
-    bytes.get(..n).unwrap_or(&[])
-}
+// What both ends know.
+static IDM: [u8; 8] = *b"\x01\x02\x03\x04\x05\x06\x07\x08";
 
-fn block(scheme: Scheme) -> usize {
-    match scheme {
-        Scheme::Des => 8,
-        Scheme::Aes128 => 16,
-    }
-}
+static CHALLENGE_3C: [u8; 4] = *b"\x21\x22\x23\x24";
 
-fn key_size(scheme: Scheme) -> usize {
-    match scheme {
-        Scheme::Des => 16,
-        Scheme::Aes128 => 32,
-    }
-}
+static ID: [u8; 6] = *b"\x11\x12\x13\x14\x15\x16";
 
-// Whether an answer is an acceptance with n bytes and no number.
-fn gives(answer: Answer, n: usize) -> bool {
-    opens(answer, n, 0)
-}
-
-fn opens(answer: Answer, n: usize, number: u16) -> bool {
-    answer.is_ok_and(|accepted| {
-        usize::from(accepted.length) == n && accepted.transaction_number == number
-    })
-}
-
-pub(crate) fn with_des<R: Print>(checks: &mut Checks<R>, mark: u8) -> io::Result<()> {
+pub(crate) fn with_des<R: Print + AllocGlobal>(checks: &mut Checks<R>, mark: u8) -> io::Result<()> {
     let keys =
         b"\xFF\xFF\x01system key 12345\x00\x00\x01area key 1234567\x08\x10\x01service key 1234";
     run(checks, mark, Scheme::Des, keys)
 }
 
-pub(crate) fn with_aes<R: Print>(checks: &mut Checks<R>, mark: u8) -> io::Result<()> {
+pub(crate) fn with_aes<R: Print + AllocGlobal>(checks: &mut Checks<R>, mark: u8) -> io::Result<()> {
     run(
         checks,
         mark,
@@ -51,210 +26,222 @@ pub(crate) fn with_aes<R: Print>(checks: &mut Checks<R>, mark: u8) -> io::Result
     )
 }
 
-fn run<R: Print>(checks: &mut Checks<R>, mark: u8, scheme: Scheme, keys: &[u8]) -> io::Result<()> {
-    let n = key_size(scheme);
-    let mut reader = [0u8; 32];
-    let mut card = [1u8; 32];
-    let at_reader = session::derive_auth_keys(mark, keys, b"\0\0", b"\x08\x10", &[], &mut reader);
-    let at_card = session::derive_auth_keys(mark, keys, b"\0\0", b"\x08\x10", &[], &mut card);
-    checks.holds(is_derived(at_reader, scheme, n))?;
-    checks.holds(is_derived(at_card, scheme, n))?;
-    talk(checks, scheme, front(&reader, n), front(&card, n))
+fn run<R: Print + AllocGlobal>(
+    checks: &mut Checks<R>,
+    mark: u8,
+    scheme: Scheme,
+    keys: &[u8],
+) -> io::Result<()> {
+    let reader = derived(checks, mark, scheme, keys)?;
+    let card = derived(checks, mark, scheme, keys)?;
+    checks.holds(reader == card)?;
+    let ends = Ends {
+        scheme,
+        reader: &reader,
+        card: &card,
+    };
+    ends.talk(checks)
 }
 
-fn talk<R: Print>(
+// The keys that one end derives: one check.
+fn derived<R: Print + AllocGlobal>(
     checks: &mut Checks<R>,
+    mark: u8,
     scheme: Scheme,
-    reader: &[u8],
-    card: &[u8],
-) -> io::Result<()> {
-    checks.holds(reader == card)?;
-    way_out(checks, scheme, reader, card)?;
-    let random = return_way(checks, scheme, reader, card)?;
-    match scheme {
-        Scheme::Des => exchange(checks, scheme, b"DES key ", b"DES key "),
-        Scheme::Aes128 => with_session_keys(checks, &random),
+    keys: &[u8],
+) -> io::Result<Vec<u8>> {
+    let length = match scheme {
+        Scheme::Des => 16,
+        Scheme::Aes128 => 32,
+    };
+    let mut out = checks.output(usize::from(length))?;
+    let derived = session::derive_auth_keys(mark, keys, b"\0\0", b"\x08\x10", &[], &mut out);
+    checks.holds(derived == Ok(DerivedAuthKeys { length, scheme }))?;
+    Ok(out)
+}
+
+// Both ends, with what each has derived.
+#[derive(Clone, Copy)]
+struct Ends<'a> {
+    scheme: Scheme,
+    reader: &'a [u8],
+    card: &'a [u8],
+}
+
+impl<'a> Ends<'a> {
+    // Both challenges, and what follows them.
+    fn talk<R: Print + AllocGlobal>(self, checks: &mut Checks<R>) -> io::Result<()> {
+        self.way_out(checks)?;
+        let random = self.return_way(checks)?;
+        match self.scheme {
+            Scheme::Des => self.with(b"DES key ", b"DES key ").exchange(checks),
+            Scheme::Aes128 => self.with_session_keys(checks, &random),
+        }
+    }
+
+    // Random 1: 1A from the reader, 1B from the card.
+    fn way_out<R: Print + AllocGlobal>(self, checks: &mut Checks<R>) -> io::Result<Vec<u8>> {
+        let mark = self.scheme.mark();
+        let Ends { reader, card, .. } = self;
+        let random = self.block(b"the reader's one");
+        challenge(
+            checks,
+            random,
+            |text, out| session::encrypt_challenge1a(mark, reader, &IDM, text, out),
+            |text, out| session::decrypt_challenge1a(mark, card, &IDM, text, out),
+            |text, out| session::encrypt_challenge1b(mark, card, &IDM, &CHALLENGE_3C, text, out),
+            |text| session::verify_challenge1b(mark, reader, &IDM, &CHALLENGE_3C, random, text),
+        )
+    }
+
+    // Random 2: 2A from the card, 2B from the reader.
+    fn return_way<R: Print + AllocGlobal>(self, checks: &mut Checks<R>) -> io::Result<Vec<u8>> {
+        let mark = self.scheme.mark();
+        let Ends { reader, card, .. } = self;
+        let random = self.block(b"the card's other");
+        challenge(
+            checks,
+            random,
+            |text, out| session::encrypt_challenge2a(mark, card, &IDM, &CHALLENGE_3C, text, out),
+            |text, out| session::decrypt_challenge2a(mark, reader, &IDM, &CHALLENGE_3C, text, out),
+            |text, out| session::encrypt_challenge2b(mark, reader, &IDM, text, out),
+            |text| session::verify_challenge2b(mark, card, &IDM, random, text),
+        )
+    }
+
+    // As much of a random as the scheme takes: one block.
+    fn block(self, random: &[u8; 16]) -> &[u8] {
+        match self.scheme {
+            Scheme::Des => &random[..8],
+            Scheme::Aes128 => random,
+        }
+    }
+
+    // The ends with other keys.
+    fn with(self, reader: &'a [u8], card: &'a [u8]) -> Ends<'a> {
+        Ends {
+            scheme: self.scheme,
+            reader,
+            card,
+        }
+    }
+
+    // AES session keys, the reader's from the random 2 that it read: three checks, and the exchange.
+    fn with_session_keys<R: Print + AllocGlobal>(
+        self,
+        checks: &mut Checks<R>,
+        read: &[u8],
+    ) -> io::Result<()> {
+        let reader = session_credentials(checks, read)?;
+        let card = session_credentials(checks, b"the card's other")?;
+        checks.holds(reader == card)?;
+        let ends = Ends {
+            scheme: self.scheme,
+            reader: &reader,
+            card: &card,
+        };
+        ends.exchange(checks)
+    }
+
+    // A command from the reader, opened by the card, and its response: eight checks.
+    fn exchange<R: Print + AllocGlobal>(self, checks: &mut Checks<R>) -> io::Result<()> {
+        self.command(checks)?;
+        self.reply(checks)
+    }
+
+    // A command from the reader, opened by the card: three checks.
+    fn command<R: Print + AllocGlobal>(self, checks: &mut Checks<R>) -> io::Result<()> {
+        let mark = self.scheme.mark();
+        let Ends { reader, card, .. } = self;
+        let size = match self.scheme {
+            Scheme::Des => 32,
+            Scheme::Aes128 => 26,
+        };
+        let payload = b"a command, whole";
+        let mut sent = checks.output(size)?;
+        let made = frame::encrypt_command(mark, 0x42, 1, &ID, reader, payload, &mut sent);
+        checks.fills(made, &sent)?;
+        let mut got = [0u8; 16];
+        let opened = frame::decrypt_response(mark, 0x42, &ID, card, &sent, &mut got);
+        checks.holds(opened == all_of_16(1))?;
+        checks.holds(got == *payload)
+    }
+
+    // A response frame from the card, opened by the reader: five checks.
+    fn reply<R: Print + AllocGlobal>(self, checks: &mut Checks<R>) -> io::Result<()> {
+        let mark = self.scheme.mark();
+        let Ends { reader, card, .. } = self;
+        let size = match self.scheme {
+            Scheme::Des => 34,
+            Scheme::Aes128 => 28,
+        };
+        let payload = b"the card's reply";
+        let mut sent = checks.output(size)?;
+        let made = frame::build_secure_response_frame(mark, 0x43, 2, &ID, card, payload, &mut sent);
+        checks.fills(made, &sent)?;
+        let [length, code, sealed @ ..] = sent.as_slice() else {
+            return checks.holds(false);
+        };
+        checks.holds(usize::from(*length) == size)?;
+        checks.holds(*code == 0x43)?;
+        let mut got = [0u8; 16];
+        let opened = frame::decrypt_response(mark, 0x43, &ID, reader, sealed, &mut got);
+        checks.holds(opened == all_of_16(2))?;
+        checks.holds(got == *payload)
     }
 }
 
-fn is_derived(derived: Result<DerivedAuthKeys, Refusal>, scheme: Scheme, n: usize) -> bool {
-    derived.is_ok_and(|keys| usize::from(keys.length) == n && keys.scheme == scheme)
+// The answer to a text of 16 bytes that is opened.
+fn all_of_16(transaction_number: u16) -> Answer {
+    Ok(Accepted {
+        length: 16,
+        transaction_number,
+    })
 }
 
-// 1A from the reader, 1B from the card: five checks.
-fn way_out<R: Print>(
+// A challenge made at one end and read at the other, and that one's proof of it checked at the first: five checks. Answers what was read.
+fn challenge<
+    R: Print + AllocGlobal,
+    M: Fn(&[u8], &mut [u8]) -> Answer,
+    D: Fn(&[u8], &mut [u8]) -> Answer,
+    P: Fn(&[u8], &mut [u8]) -> Answer,
+    V: Fn(&[u8]) -> Answer,
+>(
     checks: &mut Checks<R>,
-    scheme: Scheme,
-    reader: &[u8],
-    card: &[u8],
-) -> io::Result<()> {
-    let idm = b"\x01\x02\x03\x04\x05\x06\x07\x08";
-    let challenge_3c = b"\x21\x22\x23\x24";
-    let random = b"the reader's one";
-    let n = block(scheme);
-    let mut sent = [0u8; 16];
-    let made = session::encrypt_challenge1a(
-        scheme.mark(),
-        reader,
-        idm,
-        front(random, n),
-        &mut sent,
-    );
-    checks.holds(gives(made, n))?;
-    let mut got = [0u8; 16];
-    let read = session::decrypt_challenge1a(scheme.mark(), card, idm, front(&sent, n), &mut got);
-    checks.holds(gives(read, n))?;
-    checks.holds(front(&got, n) == front(random, n))?;
-    let mut back = [0u8; 16];
-    let proof = session::encrypt_challenge1b(
-        scheme.mark(),
-        card,
-        idm,
-        challenge_3c,
-        front(&got, n),
-        &mut back,
-    );
-    checks.holds(gives(proof, n))?;
-    let checked = session::verify_challenge1b(
-        scheme.mark(),
-        reader,
-        idm,
-        challenge_3c,
-        front(random, n),
-        front(&back, n),
-    );
-    checks.holds(gives(checked, 0))
-}
-
-// 2A from the card, 2B from the reader: five checks. Answers the random 2 that the reader read.
-fn return_way<R: Print>(
-    checks: &mut Checks<R>,
-    scheme: Scheme,
-    reader: &[u8],
-    card: &[u8],
-) -> io::Result<[u8; 16]> {
-    let idm = b"\x01\x02\x03\x04\x05\x06\x07\x08";
-    let challenge_3c = b"\x21\x22\x23\x24";
-    let random = b"the card's other";
-    let n = block(scheme);
-    let mut sent = [0u8; 16];
-    let made = session::encrypt_challenge2a(
-        scheme.mark(),
-        card,
-        idm,
-        challenge_3c,
-        front(random, n),
-        &mut sent,
-    );
-    checks.holds(gives(made, n))?;
-    let mut got = [0u8; 16];
-    let read = session::decrypt_challenge2a(
-        scheme.mark(),
-        reader,
-        idm,
-        challenge_3c,
-        front(&sent, n),
-        &mut got,
-    );
-    checks.holds(gives(read, n))?;
-    checks.holds(front(&got, n) == front(random, n))?;
-    let mut back = [0u8; 16];
-    let proof = session::encrypt_challenge2b(scheme.mark(), reader, idm, front(&got, n), &mut back);
-    checks.holds(gives(proof, n))?;
-    let checked = session::verify_challenge2b(
-        scheme.mark(),
-        card,
-        idm,
-        front(random, n),
-        front(&back, n),
-    );
-    checks.holds(gives(checked, 0))?;
+    random: &[u8],
+    make: M,
+    read: D,
+    prove: P,
+    verify: V,
+) -> io::Result<Vec<u8>>
+    requires makes { M.IsAlwaysCallable make }
+    requires reads { D.IsAlwaysCallable read }
+    requires proves { P.IsAlwaysCallable prove }
+    requires verifies { V.IsAlwaysCallable verify }
+{
+    let n = random.len();
+    let mut sent = checks.output(n)?;
+    let made = make(random, &mut sent);
+    checks.fills(made, &sent)?;
+    let mut got = checks.output(n)?;
+    let opened = read(&sent, &mut got);
+    checks.fills(opened, &got)?;
+    checks.holds(got.as_slice() == random)?;
+    let mut proof = checks.output(n)?;
+    let proved = prove(&got, &mut proof);
+    checks.fills(proved, &proof)?;
+    checks.fills(verify(&proof), &[])?;
     Ok(got)
 }
 
-// AES session keys, the reader's from the random 2 that it read: three checks, and the exchange.
-fn with_session_keys<R: Print>(checks: &mut Checks<R>, read: &[u8]) -> io::Result<()> {
-    let mut reader = *b"................................\x21\x22\x23\x24";
-    let at_reader = session::derive_secure_session_keys(read, &mut reader);
-    checks.holds(gives(at_reader, 32))?;
-    let mut card = *b"................................\x21\x22\x23\x24";
-    let at_card = session::derive_secure_session_keys(b"the card's other", &mut card);
-    checks.holds(gives(at_card, 32))?;
-    checks.holds(reader == card)?;
-    exchange(checks, Scheme::Aes128, &reader, &card)
-}
-
-// The sealed size of 16 bytes, and that of their response frame.
-fn sealed_size(scheme: Scheme) -> usize {
-    match scheme {
-        Scheme::Des => 32,
-        Scheme::Aes128 => 26,
-    }
-}
-
-fn frame_size(scheme: Scheme) -> usize
-    ensures { (2 ≤ result) × (result ≤ 64) }
-{
-    match scheme {
-        Scheme::Des => 34,
-        Scheme::Aes128 => 28,
-    }
-}
-
-fn exchange<R: Print>(
+// The session keys of a random 2, and Challenge 3C: one check.
+fn session_credentials<R: Print + AllocGlobal>(
     checks: &mut Checks<R>,
-    scheme: Scheme,
-    reader: &[u8],
-    card: &[u8],
-) -> io::Result<()> {
-    command(checks, scheme, reader, card)?;
-    reply(checks, scheme, reader, card)
-}
-
-// A command from the reader, opened by the card: three checks.
-fn command<R: Print>(
-    checks: &mut Checks<R>,
-    scheme: Scheme,
-    reader: &[u8],
-    card: &[u8],
-) -> io::Result<()> {
-    let id = b"\x11\x12\x13\x14\x15\x16";
-    let n = sealed_size(scheme);
-    let payload = b"a command, whole";
-    let mut sent = [0u8; 64];
-    let sealed = frame::encrypt_command(scheme.mark(), 0x42, 1, id, reader, payload, &mut sent);
-    checks.holds(gives(sealed, n))?;
-    let mut got = [0u8; 16];
-    let opened = frame::decrypt_response(scheme.mark(), 0x42, id, card, front(&sent, n), &mut got);
-    checks.holds(opens(opened, 16, 1))?;
-    checks.holds(got == *payload)
-}
-
-// A response frame from the card, opened by the reader: five checks.
-fn reply<R: Print>(
-    checks: &mut Checks<R>,
-    scheme: Scheme,
-    reader: &[u8],
-    card: &[u8],
-) -> io::Result<()> {
-    let id = b"\x11\x12\x13\x14\x15\x16";
-    let n = frame_size(scheme);
-    let payload = b"the card's reply";
-    let mut sent = [0u8; 64];
-    let sealed = frame::build_secure_response_frame(
-        scheme.mark(),
-        0x43,
-        2,
-        id,
-        card,
-        payload,
-        &mut sent,
-    );
-    checks.holds(gives(sealed, n))?;
-    checks.holds(usize::from(sent[0]) == n)?;
-    checks.holds(sent[1] == 0x43)?;
-    let mut got = [0u8; 16];
-    let opened = frame::decrypt_response(scheme.mark(), 0x43, id, reader, &sent[2..n], &mut got);
-    checks.holds(opens(opened, 16, 2))?;
-    checks.holds(got == *payload)
+    random_2: &[u8],
+) -> io::Result<Vec<u8>> {
+    let mut credentials = checks.output(32)?;
+    let derived = session::derive_secure_session_keys(random_2, &mut credentials);
+    checks.fills(derived, &credentials)?;
+    credentials.extend_from_slice(&CHALLENGE_3C)?;
+    Ok(credentials)
 }

@@ -1,4 +1,5 @@
 // The checks of a run that has no file: each is counted as a case is.
+use answer::Answer;
 use std::io;
 use textfile::{Tally, Verdict};
 
@@ -9,7 +10,7 @@ pub(crate) struct Checks<'a, R> {
     pub(crate) tally: Tally,
 }
 
-impl<'a, R: Print> Checks<'a, R> {
+impl<'a, R: Print + AllocGlobal> Checks<'a, R> {
     pub(crate) fn new(rt: &'a R, run: &'a str) -> Checks<'a, R> {
         let tally = Tally::default();
         Checks { rt, run, tally }
@@ -20,5 +21,17 @@ impl<'a, R: Print> Checks<'a, R> {
         let place = self.tally.ran.wrapping_add(1);
         self.tally += textfile::counted(self.rt, Ok(Verdict::from(is_right)), self.run, place)?;
         Ok(())
+    }
+
+    // An output of n bytes.
+    pub(crate) fn output(&self, n: usize) -> io::Result<Vec<u8>> {
+        Ok(vec![in self.rt.alloc(); 0; n]?)
+    }
+
+    // One check more: a call is accepted that has filled its output, and gives no number.
+    pub(crate) fn fills(&mut self, answer: Answer, out: &[u8]) -> io::Result<()> {
+        self.holds(answer.is_ok_and(|accepted| {
+            usize::from(accepted.length) == out.len() && accepted.transaction_number == 0
+        }))
     }
 }

@@ -1,19 +1,45 @@
 // The operations of `frame`: a case's inputs, and the calls. A case has its scheme as a mark, any number: one that is not DES's goes to the AES call.
-// Each operation has other fields, so each is read on its own.
 use crate::call::{Given, Wanted, answered};
-use answer::Scheme;
+use answer::{Answer, Scheme};
 use textfile::{FieldError, Fields};
+
+// A case of a sealed command or of a response frame.
+#[derive(Drop)]
+struct Sealing {
+    scheme: u8,
+    code: u8,
+    number: u16,
+    id: Vec<u8>,
+    credentials: Vec<u8>,
+    payload: Vec<u8>,
+    wanted: Wanted,
+}
+
+impl Sealing {
+    fn read(fields: &Fields) -> Result<Sealing, FieldError> {
+        Ok(Sealing {
+            scheme: fields.number(1)?,
+            code: fields.number(2)?,
+            number: fields.number(3)?,
+            id: fields.bytes(4)?,
+            credentials: fields.bytes(5)?,
+            payload: fields.bytes(6)?,
+            wanted: Wanted::bytes(fields, 7, 8)?,
+        })
+    }
+}
 
 // A sealed command, its size as it was foretold, and the command sealed by the scheme's own operation.
 pub(crate) fn seal(fields: &Fields) -> Result<bool, FieldError> {
-    let scheme = fields.number(1)?;
-    let code = fields.number(2)?;
-    let number = fields.number(3)?;
-    let id = fields.bytes(4)?;
-    let credentials = fields.bytes(5)?;
-    let payload = fields.bytes(6)?;
-    let bytes = fields.bytes(8)?;
-    let wanted = Wanted::new(fields.number(7)?, 0, 0, &bytes)?;
+    let Sealing {
+        scheme,
+        code,
+        number,
+        id,
+        credentials,
+        payload,
+        wanted,
+    } = Sealing::read(fields)?;
     let forecast = Given::from(frame::forecast(scheme, payload.len()));
     let both = wanted.is_given(|out| {
         answered(frame::encrypt_command(scheme, code, number, &id, &credentials, &payload, out))
@@ -30,14 +56,15 @@ pub(crate) fn seal(fields: &Fields) -> Result<bool, FieldError> {
 
 // A response frame, and the one made by the scheme's own operation.
 pub(crate) fn frame(fields: &Fields) -> Result<bool, FieldError> {
-    let scheme = fields.number(1)?;
-    let code = fields.number(2)?;
-    let number = fields.number(3)?;
-    let id = fields.bytes(4)?;
-    let credentials = fields.bytes(5)?;
-    let payload = fields.bytes(6)?;
-    let bytes = fields.bytes(8)?;
-    let wanted = Wanted::new(fields.number(7)?, 0, 0, &bytes)?;
+    let Sealing {
+        scheme,
+        code,
+        number,
+        id,
+        credentials,
+        payload,
+        wanted,
+    } = Sealing::read(fields)?;
     let both = wanted.is_given(|out| {
         answered(frame::build_secure_response_frame(
             scheme,
@@ -73,8 +100,7 @@ pub(crate) fn open(fields: &Fields) -> Result<bool, FieldError> {
     let id = fields.bytes(3)?;
     let credentials = fields.bytes(4)?;
     let sealed = fields.bytes(5)?;
-    let bytes = fields.bytes(8)?;
-    let wanted = Wanted::new(fields.number(6)?, fields.number(7)?, 0, &bytes)?;
+    let wanted = Wanted::new(fields.number(6)?, fields.number(7)?, 0, fields.bytes(8)?)?;
     let both = wanted.is_given(|out| {
         answered(frame::decrypt_response(scheme, code, &id, &credentials, &sealed, out))
     });
@@ -88,37 +114,46 @@ pub(crate) fn open(fields: &Fields) -> Result<bool, FieldError> {
     Ok(both && own)
 }
 
-pub(crate) fn auth2_seal(fields: &Fields) -> Result<bool, FieldError> {
+// What a call makes of a key and a text.
+pub(crate) fn under_key<F: Fn(&[u8], &[u8], &mut [u8]) -> Answer>(
+    fields: &Fields,
+    call: F,
+) -> Result<bool, FieldError>
+    requires { F.IsAlwaysCallable call }
+{
     let key = fields.bytes(1)?;
-    let payload = fields.bytes(2)?;
-    let bytes = fields.bytes(4)?;
-    let wanted = Wanted::new(fields.number(3)?, 0, 0, &bytes)?;
-    Ok(wanted.is_given(|out| answered(frame::encrypt_authentication2_payload(&key, &payload, out))))
+    let text = fields.bytes(2)?;
+    let wanted = Wanted::bytes(fields, 3, 4)?;
+    Ok(wanted.is_given(|out| answered(call(&key, &text, out))))
+}
+
+pub(crate) fn auth2_seal(fields: &Fields) -> Result<bool, FieldError> {
+    under_key(
+        fields,
+        |key, text, out| frame::encrypt_authentication2_payload(key, text, out),
+    )
 }
 
 pub(crate) fn auth2_open_des(fields: &Fields) -> Result<bool, FieldError> {
-    let key = fields.bytes(1)?;
-    let sealed = fields.bytes(2)?;
-    let bytes = fields.bytes(4)?;
-    let wanted = Wanted::new(fields.number(3)?, 0, 0, &bytes)?;
-    Ok(wanted.is_given(|out| answered(frame::decrypt_authentication2_payload(&key, &sealed, out))))
+    under_key(
+        fields,
+        |key, text, out| frame::decrypt_authentication2_payload(key, text, out),
+    )
+}
+
+pub(crate) fn package(fields: &Fields) -> Result<bool, FieldError> {
+    under_key(
+        fields,
+        |key, text, out| frame::generate_registration_package_des(key, text, out),
+    )
 }
 
 pub(crate) fn auth2_open_aes(fields: &Fields) -> Result<bool, FieldError> {
     let id = fields.bytes(1)?;
     let credentials = fields.bytes(2)?;
     let sealed = fields.bytes(3)?;
-    let bytes = fields.bytes(6)?;
-    let wanted = Wanted::new(fields.number(4)?, fields.number(5)?, 0, &bytes)?;
+    let wanted = Wanted::new(fields.number(4)?, fields.number(5)?, 0, fields.bytes(6)?)?;
     Ok(wanted.is_given(|out| {
         answered(frame::decrypt_authentication2_payload_v2_aes128(&id, &credentials, &sealed, out))
     }))
-}
-
-pub(crate) fn package(fields: &Fields) -> Result<bool, FieldError> {
-    let key = fields.bytes(1)?;
-    let plain = fields.bytes(2)?;
-    let bytes = fields.bytes(4)?;
-    let wanted = Wanted::new(fields.number(3)?, 0, 0, &bytes)?;
-    Ok(wanted.is_given(|out| answered(frame::generate_registration_package_des(&key, &plain, out))))
 }

@@ -11,7 +11,7 @@ fn made(number: u16, nodes: &[u8]) -> Result<AuthenticatedContext, Refusal> {
 
 pub(crate) fn step(fields: &Fields) -> Result<bool, FieldError> {
     let number = fields.number(1)?;
-    let wanted = Wanted::new(fields.number(2)?, fields.number(3)?, 0, &[])?;
+    let wanted = Wanted::value(fields, fields.number(2)?, fields.number(3)?)?;
     Ok(wanted.is_given(|_| stepped(number)))
 }
 
@@ -22,20 +22,33 @@ fn stepped(number: u16) -> Option<Given> {
 }
 
 // What a step answers, if the session is as it has to be after it: it has the number that the answer gives, and after a refusal the one it had; and it
-// has counted a refusal of 10 to 15 and nothing else.
+// has counted a response that was turned away, and nothing else.
 fn told(answer: Answer, before: u16, after: AuthenticatedContext) -> Option<Given> {
     let (number, count) = match answer {
         Ok(accepted) => (accepted.transaction_number, 0),
-        Err(refusal) => (before, u16::from((10..=15).contains(&refusal.number()))),
+        Err(refusal) => (before, u16::from(turns_away(refusal))),
     };
     let is_right = after.transaction_number() == number && after.turned_away() == count;
     is_right.then_some(Given::from(answer))
 }
 
+// Whether a refusal is of what a response says, from its length to its number: 10 to 15.
+fn turns_away(refusal: Refusal) -> bool {
+    matches!(
+        refusal,
+        Refusal::NotWholeBlocks
+            | Refusal::TooShort
+            | Refusal::TooLong
+            | Refusal::MacDiffers
+            | Refusal::IdDiffers
+            | Refusal::NumberNotAbove
+    )
+}
+
 pub(crate) fn index(fields: &Fields) -> Result<bool, FieldError> {
     let nodes = fields.bytes(1)?;
     let node = fields.number(2)?;
-    let wanted = Wanted::new(fields.number(3)?, fields.number(4)?, 0, &[])?;
+    let wanted = Wanted::value(fields, fields.number(3)?, fields.number(4)?)?;
     Ok(wanted.is_given(|_| {
         Some(match made(0, &nodes) {
             Ok(context) => Given::said(0, context.node_index(node)),
@@ -50,8 +63,7 @@ pub(crate) fn apply(fields: &Fields) -> Result<bool, FieldError> {
     let key = fields.bytes(3)?;
     let code = fields.number(4)?;
     let sealed = fields.bytes(5)?;
-    let bytes = fields.bytes(8)?;
-    let wanted = Wanted::new(fields.number(6)?, fields.number(7)?, 0, &bytes)?;
+    let wanted = Wanted::new(fields.number(6)?, fields.number(7)?, 0, fields.bytes(8)?)?;
     Ok(wanted.is_given(|out| {
         let mut context = AuthenticatedContext::new(1, number, &id, &key, &[]).ok()?;
         let answer = context.apply_response(code, &sealed, out);
