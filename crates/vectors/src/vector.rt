@@ -1,38 +1,43 @@
-// One line of a data file, run through `cipher` in every direction that it has.
+// The vectors of a set, each run through `cipher` in every direction that it has.
 use std::alloc::Global;
-use textfile::{FieldError, Fields, Verdict};
+use std::io;
+use std::rt::Files;
+use textfile::{FieldError, Fields, Tally, Verdict};
 
-// What the four fields of a set's lines are.
-#[derive(Clone, Copy)]
-pub(crate) enum Kind {
-    // key, -, plaintext, ciphertext: one block of AES-128
-    Aes,
-    // key, -, plaintext, ciphertext: one block of DES
-    Des,
-    // key 1, key 2, plaintext, ciphertext: one block of triple DES with the keys 1, 2, 1
-    Tdes,
-    // key, iv, plaintext, ciphertext: DES in CBC mode
-    Cbc,
-    // key, iv, plaintext, ciphertext: AES-128 in OFB mode
-    Ofb,
-    // key, -, message, MAC: AES-128 CMAC
-    Cmac,
+// Runs each vector of these files, and answers the counts. `agrees` says of a vector's four fields whether every direction gives every byte.
+pub(crate) fn run<R: Files + Print + AllocGlobal, F: Fn(&Fields) -> Result<bool, FieldError>>(
+    rt: &R,
+    files: &[&str],
+    agrees: F,
+) -> io::Result<Tally>
+    requires { F.IsAlwaysCallable agrees }
+{
+    let mut all = Tally::default();
+    for file in files {
+        all += textfile::run_file(
+            rt,
+            file,
+            |line|
+                requires { F.IsAlwaysCallable agrees }
+            { verdict(rt.alloc(), line, &agrees) },
+        )?;
+    }
+    Ok(all)
 }
 
-pub(crate) fn run(alloc: Global, kind: Kind, line: &str) -> Result<Verdict, FieldError> {
+// What comes of a line.
+fn verdict<F: Fn(&Fields) -> Result<bool, FieldError>>(
+    alloc: Global,
+    line: &str,
+    agrees: &F,
+) -> Result<Verdict, FieldError>
+    requires { F.IsAlwaysCallable agrees.now }
+{
     let fields = Fields::new(alloc, line)?;
     if fields.texts.len() != 4 {
         return Err(FieldError::Malformed);
     }
-    let agrees = match kind {
-        Kind::Aes => aes(&fields)?,
-        Kind::Des => des(&fields)?,
-        Kind::Tdes => tdes(&fields)?,
-        Kind::Cbc => cbc(&fields)?,
-        Kind::Ofb => ofb(&fields)?,
-        Kind::Cmac => cmac(&fields)?,
-    };
-    Ok(Verdict::from(agrees))
+    Ok(Verdict::from(agrees(&fields)?))
 }
 
 // Whether all bytes are equal. The library's own comparison has to say so too.
@@ -40,7 +45,8 @@ fn same(a: &[u8], b: &[u8]) -> bool {
     a == b && cipher::ct_eq(a, b)
 }
 
-fn aes(fields: &Fields) -> Result<bool, FieldError> {
+// One block of AES-128: key, -, plaintext, ciphertext.
+pub(crate) fn aes(fields: &Fields) -> Result<bool, FieldError> {
     let key = fields.array(0)?;
     fields.array::<0>(1)?;
     let plain = fields.array(2)?;
@@ -51,8 +57,8 @@ fn aes(fields: &Fields) -> Result<bool, FieldError> {
     )
 }
 
-// Triple DES under one key is DES, so these vectors are run through it too.
-fn des(fields: &Fields) -> Result<bool, FieldError> {
+// One block of DES: key, -, plaintext, ciphertext. Triple DES under one key is DES, so these vectors are run through it too.
+pub(crate) fn des(fields: &Fields) -> Result<bool, FieldError> {
     let key = fields.array(0)?;
     fields.array::<0>(1)?;
     let plain = fields.array(2)?;
@@ -64,7 +70,8 @@ fn des(fields: &Fields) -> Result<bool, FieldError> {
     )
 }
 
-fn tdes(fields: &Fields) -> Result<bool, FieldError> {
+// One block of triple DES with the keys 1, 2, 1: key 1, key 2, plaintext, ciphertext.
+pub(crate) fn tdes(fields: &Fields) -> Result<bool, FieldError> {
     let key1 = fields.array(0)?;
     let key2 = fields.array(1)?;
     let plain = fields.array(2)?;
@@ -87,8 +94,9 @@ fn messages(fields: &Fields) -> Result<(Vec<u8>, Vec<u8>), FieldError> {
     Ok((plain, sealed))
 }
 
-// The library's CBC starts from a zero iv, so the vector's goes into the first block before it, and likewise after it.
-fn cbc(fields: &Fields) -> Result<bool, FieldError> {
+// DES in CBC mode: key, iv, plaintext, ciphertext. The library's CBC starts from a zero iv, so the vector's goes into the first block before it, and
+// likewise after it.
+pub(crate) fn cbc(fields: &Fields) -> Result<bool, FieldError> {
     let key = fields.array(0)?;
     let iv = fields.array(1)?;
     let (plain, mut back) = messages(fields)?;
@@ -107,7 +115,8 @@ fn xor_front(text: &mut [u8], iv: [u8; 8]) {
     }
 }
 
-fn ofb(fields: &Fields) -> Result<bool, FieldError> {
+// AES-128 in OFB mode: key, iv, plaintext, ciphertext.
+pub(crate) fn ofb(fields: &Fields) -> Result<bool, FieldError> {
     let key = fields.array(0)?;
     let iv = fields.array(1)?;
     let (plain, mut back) = messages(fields)?;
@@ -118,7 +127,8 @@ fn ofb(fields: &Fields) -> Result<bool, FieldError> {
     Ok(is_there && same(&back, &plain))
 }
 
-fn cmac(fields: &Fields) -> Result<bool, FieldError> {
+// AES-128 CMAC: key, -, message, MAC.
+pub(crate) fn cmac(fields: &Fields) -> Result<bool, FieldError> {
     let key = fields.array(0)?;
     fields.array::<0>(1)?;
     let message = fields.bytes(2)?;
