@@ -135,12 +135,7 @@ impl<'a> Ends<'a> {
         let reader = session_credentials(checks, read)?;
         let card = session_credentials(checks, b"the card's other")?;
         checks.holds(reader == card)?;
-        let ends = Ends {
-            scheme: self.scheme,
-            reader: &reader,
-            card: &card,
-        };
-        ends.exchange(checks)
+        self.with(&reader, &card).exchange(checks)
     }
 
     // A command from the reader, opened by the card, and its response: eight checks.
@@ -202,10 +197,10 @@ fn all_of_16(transaction_number: u16) -> Answer {
 // A challenge made at one end and read at the other, and that one's proof of it checked at the first: five checks. Answers what was read.
 fn challenge<
     R: Print + AllocGlobal,
-    M: Fn(&[u8], &mut [u8]) -> Answer,
-    D: Fn(&[u8], &mut [u8]) -> Answer,
-    P: Fn(&[u8], &mut [u8]) -> Answer,
-    V: Fn(&[u8]) -> Answer,
+    M: FnOnce(&[u8], &mut [u8]) -> Answer,
+    D: FnOnce(&[u8], &mut [u8]) -> Answer,
+    P: FnOnce(&[u8], &mut [u8]) -> Answer,
+    V: FnOnce(&[u8]) -> Answer,
 >(
     checks: &mut Checks<R>,
     random: &[u8],
@@ -219,17 +214,10 @@ fn challenge<
     requires proves { P.IsAlwaysCallable prove }
     requires verifies { V.IsAlwaysCallable verify }
 {
-    let n = random.len();
-    let mut sent = checks.output(n)?;
-    let made = make(random, &mut sent);
-    checks.fills(made, &sent)?;
-    let mut got = checks.output(n)?;
-    let opened = read(&sent, &mut got);
-    checks.fills(opened, &got)?;
+    let sent = checks.makes(random, make)?;
+    let got = checks.makes(&sent, read)?;
     checks.holds(got.as_slice() == random)?;
-    let mut proof = checks.output(n)?;
-    let proved = prove(&got, &mut proof);
-    checks.fills(proved, &proof)?;
+    let proof = checks.makes(&got, prove)?;
     checks.fills(verify(&proof), &[])?;
     Ok(got)
 }

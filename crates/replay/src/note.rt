@@ -34,4 +34,18 @@ impl<'a, R: Print + AllocGlobal> Checks<'a, R> {
             usize::from(accepted.length) == out.len() && accepted.transaction_number == 0
         }))
     }
+
+    // One check more: of a text a call makes as many bytes. Answers them.
+    pub(crate) fn makes<F: FnOnce(&[u8], &mut [u8]) -> Answer>(
+        &mut self,
+        text: &[u8],
+        call: F,
+    ) -> io::Result<Vec<u8>>
+        requires { F.IsAlwaysCallable call }
+    {
+        let mut out = self.output(text.len())?;
+        let answer = call(text, &mut out);
+        self.fills(answer, &out)?;
+        Ok(out)
+    }
 }
