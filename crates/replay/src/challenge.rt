@@ -1,4 +1,5 @@
-// Challenges and the AES session keys: a case's inputs, and the call. Field 1 says which challenge a case is about.
+// Challenges and the AES session keys: a case's inputs, and the call. Field 1 says which challenge a case is about: none of
+// another name is given.
 use crate::call::{Wanted, answered};
 use textfile::{FieldError, Fields};
 
@@ -26,6 +27,7 @@ impl Inputs {
 }
 
 pub(crate) fn make(fields: &Fields) -> Result<bool, FieldError> {
+    let which = fields.get(1)?;
     let wanted = Wanted::bytes(fields, 7, 8)?;
     let Inputs {
         scheme,
@@ -34,24 +36,19 @@ pub(crate) fn make(fields: &Fields) -> Result<bool, FieldError> {
         challenge_3c,
         text: random,
     } = Inputs::read(fields)?;
-    Ok(match fields.get(1)? {
-        "1a" => wanted.is_given(|out| {
-            answered(session::encrypt_challenge1a(scheme, &keys, &idm, &random, out))
-        }),
-        "1b" => wanted.is_given(|out| {
-            answered(session::encrypt_challenge1b(scheme, &keys, &idm, &challenge_3c, &random, out))
-        }),
-        "2a" => wanted.is_given(|out| {
-            answered(session::encrypt_challenge2a(scheme, &keys, &idm, &challenge_3c, &random, out))
-        }),
-        "2b" => wanted.is_given(|out| {
-            answered(session::encrypt_challenge2b(scheme, &keys, &idm, &random, out))
-        }),
-        _ => return Err(FieldError::Malformed),
-    })
+    Ok(wanted.is_given(|out| {
+        answered(match which {
+            "1a" => session::encrypt_challenge1a(scheme, &keys, &idm, &random, out),
+            "1b" => session::encrypt_challenge1b(scheme, &keys, &idm, &challenge_3c, &random, out),
+            "2a" => session::encrypt_challenge2a(scheme, &keys, &idm, &challenge_3c, &random, out),
+            "2b" => session::encrypt_challenge2b(scheme, &keys, &idm, &random, out),
+            _ => return None,
+        })
+    }))
 }
 
 pub(crate) fn read(fields: &Fields) -> Result<bool, FieldError> {
+    let which = fields.get(1)?;
     let wanted = Wanted::bytes(fields, 7, 8)?;
     let Inputs {
         scheme,
@@ -60,20 +57,19 @@ pub(crate) fn read(fields: &Fields) -> Result<bool, FieldError> {
         challenge_3c,
         text: block,
     } = Inputs::read(fields)?;
-    Ok(match fields.get(1)? {
-        "1a" => wanted.is_given(|out| {
-            answered(session::decrypt_challenge1a(scheme, &keys, &idm, &block, out))
-        }),
-        "2a" => wanted.is_given(|out| {
-            answered(session::decrypt_challenge2a(scheme, &keys, &idm, &challenge_3c, &block, out))
-        }),
-        _ => return Err(FieldError::Malformed),
-    })
+    Ok(wanted.is_given(|out| {
+        answered(match which {
+            "1a" => session::decrypt_challenge1a(scheme, &keys, &idm, &block, out),
+            "2a" => session::decrypt_challenge2a(scheme, &keys, &idm, &challenge_3c, &block, out),
+            _ => return None,
+        })
+    }))
 }
 
 pub(crate) fn check(fields: &Fields) -> Result<bool, FieldError> {
-    let wanted = Wanted::value(fields, fields.number(8)?, 0)?;
+    let which = fields.get(1)?;
     let block = fields.bytes(7)?;
+    let wanted = Wanted::value(fields, fields.number(8)?, 0)?;
     let Inputs {
         scheme,
         idm,
@@ -81,22 +77,15 @@ pub(crate) fn check(fields: &Fields) -> Result<bool, FieldError> {
         challenge_3c,
         text: random,
     } = Inputs::read(fields)?;
-    Ok(match fields.get(1)? {
-        "1b" => wanted.is_given(|_| {
-            answered(session::verify_challenge1b(
-                scheme,
-                &keys,
-                &idm,
-                &challenge_3c,
-                &random,
-                &block,
-            ))
-        }),
-        "2b" => wanted.is_given(|_| {
-            answered(session::verify_challenge2b(scheme, &keys, &idm, &random, &block))
-        }),
-        _ => return Err(FieldError::Malformed),
-    })
+    Ok(wanted.is_given(|_| {
+        answered(match which {
+            "1b" => {
+                session::verify_challenge1b(scheme, &keys, &idm, &challenge_3c, &random, &block)
+            }
+            "2b" => session::verify_challenge2b(scheme, &keys, &idm, &random, &block),
+            _ => return None,
+        })
+    }))
 }
 
 // The IDm and the keys of a case are the original's: random 2 alone enters.

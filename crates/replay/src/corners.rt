@@ -1,9 +1,10 @@
 // The session's corners: its number at both ends of its range, its count of responses turned away at the top, and the order in which a response is
 // refused.
+ghost use Rattle.std.specs.Prelude.{◌≤◌};
+
 use crate::note::Checks;
 use answer::{Accepted, Refusal, Scheme};
 use session::AuthenticatedContext;
-use std::io;
 
 static CREDENTIALS: [u8; 36] = [0x5A; 36];
 
@@ -15,15 +16,11 @@ fn credentials(scheme: Scheme) -> &'static [u8] {
 }
 
 // A new session, with no nodes: one check. There is none where it does not hold.
-fn begin<R: Print + AllocGlobal>(
-    checks: &mut Checks<R>,
-    scheme: Scheme,
-    number: u16,
-) -> io::Result<Option<AuthenticatedContext>> {
+fn begin(checks: &mut Checks, scheme: Scheme, number: u16) -> Option<AuthenticatedContext> {
     let id = b"\x11\x12\x13\x14\x15\x16";
     let made = AuthenticatedContext::new(scheme.mark(), number, id, credentials(scheme), &[]).ok();
-    checks.holds(made.is_some())?;
-    Ok(made)
+    checks.holds(made.is_some());
+    made
 }
 
 fn is_left(context: AuthenticatedContext, number: u16, count: u16) -> bool {
@@ -31,9 +28,9 @@ fn is_left(context: AuthenticatedContext, number: u16, count: u16) -> bool {
 }
 
 // 65,537 responses of 9 bytes, each turned away as too short: the count ends at 65,535.
-pub(crate) fn many<R: Print + AllocGlobal>(checks: &mut Checks<R>) -> io::Result<()> {
-    let Some(mut context) = begin(checks, Scheme::Aes128, 5)? else {
-        return Ok(());
+pub(crate) fn many(checks: &mut Checks) {
+    let Some(mut context) = begin(checks, Scheme::Aes128, 5) else {
+        return;
     };
     for i in 1..65538u32 {
         let count = u16::try_from(i).unwrap_or(u16::MAX);
@@ -41,13 +38,13 @@ pub(crate) fn many<R: Print + AllocGlobal>(checks: &mut Checks<R>) -> io::Result
         let received = context.apply_response(0x43, b"\x06\0\0\0\0\0\0\0\0", &mut out);
         checks.holds(
             received == Err(Refusal::TooShort) && is_left(context, 5, count) && out == [0xA5; 8],
-        )?;
+        );
     }
-    checks.holds(is_left(context, 5, 65535))
+    checks.holds(is_left(context, 5, 65535));
 }
 
 // The number step: the number that a session is given before it, if any; whether there is a next number, and the session's number after it.
-pub(crate) fn stepping<R: Print + AllocGlobal>(checks: &mut Checks<R>) -> io::Result<()> {
+pub(crate) fn stepping(checks: &mut Checks) {
     let steps = [
         (None, true, 65535),
         (None, false, 65535),
@@ -56,8 +53,8 @@ pub(crate) fn stepping<R: Print + AllocGlobal>(checks: &mut Checks<R>) -> io::Re
         (Some(0), true, 1),
         (Some(65535), false, 65535),
     ];
-    let Some(mut context) = begin(checks, Scheme::Des, 65534)? else {
-        return Ok(());
+    let Some(mut context) = begin(checks, Scheme::Des, 65534) else {
+        return;
     };
     for (before, is_next, number) in steps {
         if let Some(before) = before {
@@ -69,9 +66,8 @@ pub(crate) fn stepping<R: Print + AllocGlobal>(checks: &mut Checks<R>) -> io::Re
             Err(Refusal::NumberExhausted)
         };
         let stepped = context.increment_transaction_number();
-        checks.holds(stepped == wanted && is_left(context, number, 0))?;
+        checks.holds(stepped == wanted && is_left(context, number, 0));
     }
-    Ok(())
 }
 
 // What a response is sealed with: the last byte of the ID (0x16 is the session's), and the number.
@@ -101,13 +97,12 @@ fn leaves(refusal: Option<Refusal>, number: u16, count: u16) -> Outcome {
     }
 }
 
-// The response step, in one scheme: the number that the session is given before it, if any; the response, how many bytes the output has, and what is
+// The response step, in one scheme, where a sealed response has N bytes: the number that the session is given before it, if any; the response, how many bytes the output has, and what is
 // to come of it. Another ID is told by the ID in DES and by the MAC in AES, and comes before a number that is not above; that comes before an output
 // that is too small, which is not counted.
-pub(crate) fn responses<R: Print + AllocGlobal>(
-    checks: &mut Checks<R>,
-    scheme: Scheme,
-) -> io::Result<()> {
+pub(crate) fn responses<const N: usize>(checks: &mut Checks, scheme: Scheme)
+    requires { N ≤ 64 }
+{
     let other = match scheme {
         Scheme::Des => Some(Refusal::IdDiffers),
         Scheme::Aes128 => Some(Refusal::MacDiffers),
@@ -126,30 +121,47 @@ pub(crate) fn responses<R: Print + AllocGlobal>(
         (Some(65535), sent(0x16, 65535), 8, leaves(old, 65535, 7)),
         (Some(3), sent(0x16, 65535), 8, leaves(None, 65535, 7)),
     ];
-    let Some(mut context) = begin(checks, scheme, 5)? else {
-        return Ok(());
+    let Some(mut context) = begin(checks, scheme, 5) else {
+        return;
     };
     for (before, response, room, outcome) in steps {
         if let Some(before) = before {
             context.set_transaction_number(before);
         }
-        receive(checks, &mut context, scheme, response, room, outcome)?;
+        let received = match sealed::<N>(scheme, response) {
+            Some(sealed) => receive(&mut context, &sealed, room, outcome),
+            None => false,
+        };
+        checks.holds(received);
     }
-    Ok(())
 }
 
-// A response of eight bytes, received with an output of `room` bytes: what is written is the payload or nothing.
-fn receive<R: Print + AllocGlobal>(
-    checks: &mut Checks<R>,
+// A sealed response of eight bytes, where sealing gives as many bytes as it has to.
+fn sealed<const N: usize>(scheme: Scheme, response: Response) -> Option<[u8; N]> {
+    let id = [0x11, 0x12, 0x13, 0x14, 0x15, response.id];
+    let mut out = [0; N];
+    let made = frame::encrypt_command(
+        scheme.mark(),
+        0x43,
+        response.number,
+        &id,
+        credentials(scheme),
+        b"payload8",
+        &mut out,
+    );
+    made.is_ok_and(|accepted| usize::from(accepted.length) == N)
+        .then_some(out)
+}
+
+// Whether of a response, received with an output of `room` bytes, comes what is to come. What is written is the payload or nothing.
+fn receive(
     context: &mut AuthenticatedContext,
-    scheme: Scheme,
-    response: Response,
+    sealed: &[u8],
     room: usize,
     outcome: Outcome,
-) -> io::Result<()> {
-    let sealed = seal(checks, scheme, response)?;
+) -> bool {
     let mut out = [0xA5u8; 8];
-    let received = context.apply_response(0x43, &sealed, &mut out[..room.min(8)]);
+    let received = context.apply_response(0x43, sealed, &mut out[..room.min(8)]);
     let (wanted, written) = match outcome.refusal {
         None => {
             let accepted = Accepted {
@@ -160,27 +172,5 @@ fn receive<R: Print + AllocGlobal>(
         }
         Some(refusal) => (Err(refusal), [0xA5; 8]),
     };
-    let is_left = is_left(*context, outcome.number, outcome.count);
-    checks.holds(received == wanted && is_left && out == written)
-}
-
-// A sealed response. Where sealing refuses it is empty, which no outcome here allows: its refusal is "too short".
-fn seal<R: Print + AllocGlobal>(
-    checks: &Checks<R>,
-    scheme: Scheme,
-    response: Response,
-) -> io::Result<Vec<u8>> {
-    let id = [0x11, 0x12, 0x13, 0x14, 0x15, response.id];
-    let mut out = checks.output(64)?;
-    let made = frame::encrypt_command(
-        scheme.mark(),
-        0x43,
-        response.number,
-        &id,
-        credentials(scheme),
-        b"payload8",
-        &mut out,
-    );
-    out.truncate(made.map_or(0, |accepted| usize::from(accepted.length)));
-    Ok(out)
+    received == wanted && is_left(*context, outcome.number, outcome.count) && out == written
 }

@@ -67,29 +67,33 @@ fn session_cases<R: Files + Print + AllocGlobal>(rt: &R) -> io::Result<Tally> {
     Ok(all)
 }
 
-// The runs that have no file. A row's title stands in the place of one.
-fn own_runs<R: Print + AllocGlobal>(rt: &R) -> io::Result<Tally> {
-    let mut many = Checks::new(rt, "the session's corners");
-    corners::many(&mut many)?;
-    textfile::print_row(rt, many.tally, "# Session: 65,537 responses turned away\n")?;
-    let mut steps = Checks::new(rt, "the session's corners");
-    corners::stepping(&mut steps)?;
-    corners::responses(&mut steps, Scheme::Des)?;
-    corners::responses(&mut steps, Scheme::Aes128)?;
-    textfile::print_row(
+// The runs that have no file.
+fn own_runs(rt: &impl Print) -> io::Result<Tally> {
+    let mut many = Checks::default();
+    corners::many(&mut many);
+    let mut steps = Checks::default();
+    corners::stepping(&mut steps);
+    corners::responses::<24>(&mut steps, Scheme::Des);
+    corners::responses::<18>(&mut steps, Scheme::Aes128);
+    let mut ends = Checks::default();
+    ends::with_des(&mut ends, 1);
+    ends::with_aes(&mut ends, 2);
+    ends::with_des(&mut ends, 0);
+    ends::with_aes(&mut ends, 0);
+    let mut all = many.print(
         rt,
-        steps.tally,
+        "responses turned away",
+        "# Session: 65,537 responses turned away\n",
+    )?;
+    all += steps.print(
+        rt,
+        "the session's corners",
         "# Session: number and response steps at their corners\n",
     )?;
-    let mut ends = Checks::new(rt, "both ends");
-    ends::with_des(&mut ends, 1)?;
-    ends::with_aes(&mut ends, 2)?;
-    ends::with_des(&mut ends, 0)?;
-    ends::with_aes(&mut ends, 0)?;
-    textfile::print_row(
+    all += ends.print(
         rt,
-        ends.tally,
+        "both ends",
         "# Both ends through every call, by mark and scheme\n",
     )?;
-    Ok(many.tally + steps.tally + ends.tally)
+    Ok(all)
 }

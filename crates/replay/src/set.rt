@@ -47,25 +47,16 @@ impl<'a> Form<'a> {
     ) -> Result<Verdict, FieldError>
         requires { F.IsAlwaysCallable agrees.now }
     {
-        match line.strip_suffix(" departs") {
-            Some(case) if self.agrees(alloc, case, agrees)? => Ok(Verdict::Departs),
-            Some(_) => Ok(Verdict::Differs),
-            None => Ok(Verdict::from(self.agrees(alloc, line, agrees)?)),
-        }
-    }
-
-    fn agrees<F: Fn(&Fields) -> Result<bool, FieldError>>(
-        self,
-        alloc: Global,
-        case: &str,
-        agrees: &F,
-    ) -> Result<bool, FieldError>
-        requires { F.IsAlwaysCallable agrees.now }
-    {
-        let fields = Fields::new(alloc, case)?;
+        let departing = line.strip_suffix(" departs");
+        let fields = Fields::new(alloc, departing.unwrap_or(line))?;
         if fields.get(0)? != self.name || fields.texts.len() != self.count {
             return Err(FieldError::Malformed);
         }
-        agrees(&fields)
+        let agrees = agrees(&fields)?;
+        if agrees && departing.is_some() {
+            Ok(Verdict::Departs)
+        } else {
+            Ok(Verdict::from(agrees))
+        }
     }
 }
