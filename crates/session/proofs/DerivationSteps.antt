@@ -2,9 +2,11 @@
 use mathlib.Core.Path.{◌≡◌, refl, sym, ap, ap₂, ◌∙◌}
 use mathlib.Core.Bool.{Bool, true, false}
 use mathlib.Core.List.{List, [], ◌∷◌, ◌++◌}
+use mathlib.Core.HLevel.{⊥_prop}
+use mathlib.Core.Logic.{∥∥₁_elim}
 use Prim.Native.Nat.{ℕ, ◌*◌, ◌/◌, ◌%◌, ◌≤◌, ◌<◌}
 use native.Mathlib.Omega.{arith}
-use borrow.Author.Tests.{eq-eqb, ne_eqb, lt-ltb, le-ltb, ltb-false}
+use borrow.Author.Tests.{eq-eqb, ne_eqb, lt-ltb, le-ltb}
 use lib.Dec.{eqb, ltb}
 use lib.Seq.{length-take-le}
 use lib.ListN.{length, take, replicate}
@@ -28,7 +30,7 @@ use Rattle.answer.proofs.Rows.{refusal_some, either_false, isnt_false, numbered,
 use Rattle.session.specs.Entries.{Entry, entries, nodes, has, unknown_algorithm, twice}
 use Rattle.session.specs.declared.keys.DerivedAuthKeys.{DerivedAuthKeys}
 use Rattle.session.specs.Derivation.{Derived, Derives, turned_down, derived, by_rows, lacks, needing, key_of, keys_of, group_des, user_des, des_rows, derived_des, key_length, chain_start, group_aes, individual_key, derived_aes, target, derived_by, chosen, derived_for, lengths_wrong, derive_rows, derived_before16, with_room, derivation}
-use Rattle.session.specs.inner.DerivationSteps.{refusing, forced_mark, bytes_of}
+use Rattle.session.specs.inner.DerivationSteps.{refusing, forced_mark, bytes_of, Guards}
 use Rattle.session.specs.ServiceCode.{bearing}
 use Rattle.session.proofs.Gathering.{needing_append, keys_long, missing_none}
 use Rattle.session.proofs.NodeLists.{length_nodes}
@@ -87,17 +89,7 @@ module _ (keys areas services : List ℕ) (k : length keys % 19 ≡ 0) (a : leng
 
 -- ---- the whole derivation
 
--- what no refusal of the lists says
-pub few_lists : (keys areas services : List ℕ) → first_of (derive_rows 0 keys areas services []) ≡ 0 → (length areas / 2 ≤ 32) × (length services / 2 ≤ 32)
-unfolding derive_rows numbered both
-few_lists keys areas services e =
-    let f = first_passes (derive_rows 0 keys areas services []) 0 refl (sym e) refl in
-    let m = (either_false _ _ f.1.0).1 in
-    let p : length (nodes areas) ≤ 32 = ltb-false 32 _ (either_false _ _ m).0 in
-    let q : length (nodes services) ≤ 32 = ltb-false 32 _ (either_false _ _ m).1 in
-    (rw (← length_nodes areas) p, rw (← length_nodes services) q)
-
--- and of the individual key
+-- what no refusal says of the individual key
 pub own_fits : (mark : ℕ) (keys areas services individual : List ℕ) → first_of (derive_rows mark keys areas services individual) ≡ 0 → either (eqb (length individual) 0) (eqb (length individual) 16) ≡ true
 unfolding derive_rows lengths_wrong numbered both
 own_fits mark keys areas services individual e =
@@ -122,53 +114,57 @@ unfolding either
 either_right true = refl
 either_right false = refl
 
-module _ (mark : ℕ) (keys areas services individual : List ℕ) (room : ℕ) where
-  module _ (out : List ℕ) (r : Result DerivedAuthKeys Refusal) (e : Refusal) (q : IsErrAnd r (λ x. x ≡ e)) where
-    pub rows_derives : (first_of (derive_rows mark keys areas services individual) ≡ refusal_number e) × (refusal_node e ≡ 0) → Derives (derivation mark keys areas services individual room) r out out
-    unfolding derivation derived_before16
-    rows_derives h = question_derives _ room out r e q (rows_refuse _ _ e h)
+-- where `?` passed a refusal on
+pub question_guards : {A : Type 0} (rows : List Row) (r : Result A Refusal) (e : Refusal) → IsErrAnd r (λ x. x ≡ e) → (first_of rows ≡ refusal_number e) × (refusal_node e ≡ 0) → Guards rows r
+question_guards rows r e q h = let p = err_from_is_err_and r q in rw (p.1, p.2) h
 
-    -- an unknown mark
-    pub mark_derives : (e ≡ BadMarkOrLength) × (2 < mark) → Derives (derivation mark keys areas services individual room) r out out
-    unfolding derive_rows first_of either choose
-    mark_derives h = rows_derives (rw (h.0, lt-ltb 2 mark h.1) (refl, refl))
+module _ (mark : ℕ) (keys areas services individual : List ℕ) where
+  -- an unknown mark
+  pub mark_refuses : (e : Refusal) → (e ≡ BadMarkOrLength) × (2 < mark) → (first_of (derive_rows mark keys areas services individual) ≡ refusal_number e) × (refusal_node e ≡ 0)
+  unfolding derive_rows first_of either choose
+  mark_refuses e h = rw (h.0, lt-ltb 2 mark h.1) (refl, refl)
 
-    -- an individual key of another length
-    pub individual_derives : (e ≡ BadMarkOrLength) × (length individual ≢ 0) × (length individual ≢ 16) → Derives (derivation mark keys areas services individual room) r out out
-    unfolding derive_rows lengths_wrong first_of either isnt choose
-    individual_derives h = rows_derives (rw (h.0, ne_eqb _ _ h.1, ne_eqb _ _ h.2) (rw (either_right, either_right, either_right, either_right), refl))
+  -- an individual key of another length
+  pub individual_refuses : (e : Refusal) → (e ≡ BadMarkOrLength) × (length individual ≢ 0) × (length individual ≢ 16) → (first_of (derive_rows mark keys areas services individual) ≡ refusal_number e) × (refusal_node e ≡ 0)
+  unfolding derive_rows lengths_wrong first_of either isnt choose
+  individual_refuses e h = rw (h.0, ne_eqb _ _ h.1, ne_eqb _ _ h.2) (rw (either_right, either_right, either_right, either_right), refl)
 
-  -- the mark and the individual key are right
-  module _ (o : Option Scheme) (em : forced_mark o ≡ mark) (k : Option (List ℕ)) (long : IfSome k (λ x. length x ≡ 16)) (ek : bytes_of k ≡ individual) where
-    same_rows : derive_rows mark keys areas services individual ≡ derive_rows 0 keys areas services []
-    unfolding derive_rows lengths_wrong either
-    same_rows =
-        let h : mark ≤ 2 = omega (arith, forced_low o, em) in
-        let f : either (eqb (length individual) 0) (eqb (length individual) 16) ≡ true = own_length k individual long ek in
-        rw (le-ltb 2 mark h, f)
+  -- the mark and the individual key are right: the lists decide
+  pub by_lists : (o : Option Scheme) → forced_mark o ≡ mark → (k : Option (List ℕ)) → IfSome k (λ x. length x ≡ 16) → bytes_of k ≡ individual
+      → first_of (derive_rows mark keys areas services individual) ≡ first_of (derive_rows 0 keys areas services [])
+  unfolding derive_rows lengths_wrong either
+  by_lists o em k long ek =
+      let h : mark ≤ 2 = omega (arith, forced_low o, em) in
+      let f : either (eqb (length individual) 0) (eqb (length individual) 16) ≡ true = own_length k individual long ek in
+      rw (le-ltb 2 mark h, f)
 
-    pub lists_derive : (out : List ℕ) (r : Result DerivedAuthKeys Refusal) (e : Refusal) → IsErrAnd r (λ x. x ≡ e) → (first_of (derive_rows 0 keys areas services []) ≡ refusal_number e) × (refusal_node e ≡ 0)
+  module _ (room : ℕ) where
+    -- the rows refused
+    pub rows_derives : (out : List ℕ) (r : Result DerivedAuthKeys Refusal) (e : Refusal) → IsErrAnd r (λ x. x ≡ e) → (first_of (derive_rows mark keys areas services individual) ≡ refusal_number e) × (refusal_node e ≡ 0)
         → Derives (derivation mark keys areas services individual room) r out out
-    lists_derive out r e q h = rows_derives out r e q (ap first_of same_rows ∙ h.0, h.1)
+    unfolding derivation derived_before16
+    rows_derives out r e q h = question_derives _ room out r e q (rows_refuse _ _ e h)
 
-    module _ (passed : first_of (derive_rows 0 keys areas services []) ≡ 0) where
-      goes : derivation mark keys areas services individual room ≡ with_room room (derived_for (forced_mark o) (entries keys) (nodes areas) (nodes services) (bytes_of k))
+    -- none did, and these were given
+    module _ (passed : first_of (derive_rows mark keys areas services individual) ≡ 0) (o : Option Scheme) (ks ar sv : List ℕ) (k : Option (List ℕ))
+        (given : (forced_mark o ≡ mark) × (ks ≡ keys) × (ar ≡ areas) × (sv ≡ services) × (bytes_of k ≡ individual)) where
+      goes : derivation mark keys areas services individual room ≡ with_room room (derived_for (forced_mark o) (entries ks) (nodes ar) (nodes sv) (bytes_of k))
       unfolding derivation derived_before16
-      goes = ap (with_room room) (rows_pass _ _ (ap first_of same_rows ∙ passed)) ∙ rw (em, ek)
+      goes = ap (with_room room) (rows_pass _ _ passed) ∙ rw (given.0, given.1, given.2, given.3, given.4)
 
       -- the choice of a scheme refused
       pub choice_derives : (out : List ℕ) (r : Result DerivedAuthKeys Refusal) (e : Refusal) → IsErrAnd r (λ x. x ≡ e)
-          → ((i : List ℕ) → derived_for (forced_mark o) (entries keys) (nodes areas) (nodes services) i ≡ refusing e) → Derives (derivation mark keys areas services individual room) r out out
+          → ((i : List ℕ) → derived_for (forced_mark o) (entries ks) (nodes ar) (nodes sv) i ≡ refusing e) → Derives (derivation mark keys areas services individual room) r out out
       choice_derives out r e q h = rw goes (question_derives _ room out r e q (h _))
 
       -- s was chosen
-      module _ (s : Scheme) (h : (i : List ℕ) → derived_for (forced_mark o) (entries keys) (nodes areas) (nodes services) i ≡ derived_by (mark_of s) (entries keys) (nodes areas) (nodes services) i)
+      module _ (s : Scheme) (h : (i : List ℕ) → derived_for (forced_mark o) (entries ks) (nodes ar) (nodes sv) i ≡ derived_by (mark_of s) (entries ks) (nodes ar) (nodes sv) i)
           (r : Result DerivedAuthKeys Refusal) (before after : List ℕ) where
-        pub des_derives : s ≡ Des → Derives (with_room room (derived_des (entries keys) (nodes areas) (nodes services) (bytes_of k))) r before after → Derives (derivation mark keys areas services individual room) r before after
+        pub des_derives : s ≡ Des → Derives (with_room room (derived_des (entries ks) (nodes ar) (nodes sv) (bytes_of k))) r before after → Derives (derivation mark keys areas services individual room) r before after
         unfolding derived_by choose
         des_derives e d = rw (goes, h (bytes_of k), e) d
 
-        pub aes_derives : s ≡ Aes128 → Derives (with_room room (derived_aes (entries keys) (nodes areas) (nodes services) (bytes_of k))) r before after → Derives (derivation mark keys areas services individual room) r before after
+        pub aes_derives : s ≡ Aes128 → Derives (with_room room (derived_aes (entries ks) (nodes ar) (nodes sv) (bytes_of k))) r before after → Derives (derivation mark keys areas services individual room) r before after
         unfolding derived_by choose
         aes_derives e d = rw (goes, h (bytes_of k), e) d
 
@@ -230,9 +226,9 @@ pub bytes_none : (o : Option (List ℕ)) (t : Bool) → t ≡ is_some o → t �
 bytes_none None t e h = refl
 bytes_none (Some k) t e h = absurd (cc)
 
-pub bytes_some : (o : Option (List ℕ)) (t : Bool) → IfSome o (λ k. length k ≡ 16) → t ≡ is_some o → t ≡ true → length (bytes_of o) ≢ 0
+pub bytes_some : (o : Option (List ℕ)) (t : Bool) → ∥ IfSome o (λ k. length k ≡ 16) ∥₁ → t ≡ is_some o → t ≡ true → length (bytes_of o) ≢ 0
 bytes_some None t l e h = absurd (cc)
-bytes_some (Some k) t l e h = λ z. omega arith
+bytes_some (Some k) t l e h = λ z. ∥∥₁_elim l ⊥_prop (λ w. omega (arith, w, z))
 
 module _ (es : List Entry) (areas services k : List ℕ) where
   des_steps : derived_des es areas services k

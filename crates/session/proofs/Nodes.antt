@@ -6,12 +6,11 @@ use mathlib.Core.Logic.{⊎_elim}
 use Prim.Native.Nat.{ℕ, zero, suc, ◌+◌, ◌*◌, ◌/◌, ◌≤◌, ◌<◌, min}
 use native.Mathlib.Nat.{min-eq_left, min-eq_right}
 use native.Mathlib.Omega.{arith}
-use borrow.Author.Tests.{lt-ltb, le-ltb, ltb-false}
+use borrow.Author.Tests.{lt-ltb, le-ltb, ltb-true, ltb-false}
 use lib.Dec.{eqb, ltb}
 use lib.ListN.{length, take, drop}
 use lib.Seq.{length-take-le}
-use Rattle.std.specs.Prelude.{Option, Some, None}
-use Rattle.std.specs.Option.{unwrap_or}
+use Rattle.std.specs.Prelude.{Option, Some, None, MatchOption}
 use Rattle.std.specs.List.{position_or_len, position}
 use Rattle.std.specs.Simd.{first_chunks}
 use Rattle.cipher.proofs.Numbers.{le_or_lt}
@@ -56,19 +55,18 @@ module _ (node : ℕ) where
   first_most [] = omega arith
   first_most (n ∷ ns) = let h = first_most ns in choose_most (eqb n node) 0 (suc (first_place ns node)) (suc (length ns)) (omega arith) (omega arith)
 
-  -- what the search answers, or how many pairs there are
-  or_all : (b : Bool) (p n : ℕ) → ltb p n ≡ b → p ≤ n → unwrap_or (cond b (Some p) None) n ≡ p
-  or_all true p n e h = refl
-  or_all false p n e h = let l = ltb-false p n e in omega arith
+  -- the place that was found among n pairs, or none
+  found_or_none : (b : Bool) (p n : ℕ) → ltb p n ≡ b → p ≤ n → MatchOption (cond b (Some p) None) (p ≡ n) (λ k. (k ≡ p) × (k < n))
+  found_or_none true p n e h = let l = ltb-true p n e in (refl, l)
+  found_or_none false p n e h = let l = ltb-false p n e in omega arith
 
-  pub first_place_lem : (l : List ℕ) (r : Option ℕ) (k : ℕ) → r ≡ position test (first_chunks 2 (length l / 2) l) → k ≡ unwrap_or r (length (first_chunks 2 (length l / 2) l)) → k ≡ first_place (nodes l) node
+  pub first_place_lem : (l : List ℕ) (r : Option ℕ) → r ≡ position test (first_chunks 2 (length l / 2) l)
+      → MatchOption r (first_place (nodes l) node ≡ length (nodes l)) (λ k. (k ≡ first_place (nodes l) node) × (k < length (nodes l)))
   unfolding nodes
-  first_place_lem l r k e q =
+  first_place_lem l r e =
       let n : ℕ = length l / 2 in
-      let p : ℕ = position_or_len test (first_chunks 2 n l) in
-      let m : ℕ = length (first_chunks 2 n l) in
-      let h : p ≤ m = rw (first_is n l, how_many n l) at (first_most (first_nodes n l)) in
-      q ∙ ap (λ (o : Option ℕ). unwrap_or o m) e ∙ or_all (ltb p m) p m refl h ∙ sym (first_is n l)
+      let h : first_place (first_nodes n l) node ≤ length (first_nodes n l) = first_most (first_nodes n l) in
+      rw (e, ← first_is n l, ← how_many n l) (found_or_none (ltb (first_place (first_nodes n l) node) (length (first_nodes n l))) _ _ refl h)
 
 -- ---- how many nodes are listed
 
@@ -78,6 +76,14 @@ listed_is n k e =
     ⊎_elim
     (λ (h : 64 ≤ n). e ∙ min-eq_right h ∙ rw (le-ltb n 64 h))
     (λ (h : n < 64). let m : n ≤ 64 = omega arith in e ∙ min-eq_left m ∙ rw (lt-ltb n 64 h))
+    (le_or_lt 64 n)
+
+pub listed_low : (n : ℕ) → listed_count n ≤ 64
+unfolding listed_count choose
+listed_low n =
+    ⊎_elim
+    (λ (h : 64 ≤ n). rw (le-ltb n 64 h) (omega arith))
+    (λ (h : n < 64). rw (lt-ltb n 64 h) (omega arith))
     (le_or_lt 64 n)
 
 -- ---- the index: the search goes through the whole list, and count says how many nodes of it are listed

