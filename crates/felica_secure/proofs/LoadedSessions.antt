@@ -1,10 +1,12 @@
 -- Calls on the bytes of a session, once they were loaded or refused (`load` of src/sessions.rt). Assumes nothing.
 use mathlib.Core.Path.{◌≡◌, ◌∙◌}
 use mathlib.Core.Bool.{true, false}
-use mathlib.Core.List.{List}
+use mathlib.Core.List.{List, []}
 use Prim.Native.Nat.{ℕ}
 use native.Mathlib.Omega.{arith}
-use Rattle.answer.specs.Outcome.{over}
+use Rattle.std.specs.Prelude.{Result, Ok, Err, MatchResult, IsOkAnd}
+use Rattle.answer.specs.Outcome.{Answer, answer_number, answer_length, answer_transaction, over}
+use Rattle.answer.specs.declared.answer.Accepted.{Accepted}
 use Rattle.answer.specs.Refusal.{refusal_number}
 use Rattle.answer.specs.declared.refusal.Refusal.{Refusal}
 use Rattle.answer.specs.declared.refusal.Refusal.TheVariants.{BadMarkOrLength}
@@ -39,3 +41,15 @@ module _ (call : AuthenticatedContext → Call AuthenticatedContext) (b : List �
 
     pub kept : (c : List ℕ) (t : AuthenticatedContext) → t ≡ (call s).state → (c ≡ encode t) × (decode c ≡ t) → Keeps kept_session call b c r before after
     kept = keeps kept_session call b r h.0 s h.1 before after e w
+
+-- `map` over the session: what it makes is the answer
+pub told_by_map : (call : AuthenticatedContext → Call AuthenticatedContext) (b : List ℕ) (loaded : Result AuthenticatedContext Refusal) (r : ℕ) (answer : Answer) (P : AuthenticatedContext → Accepted → Type 0)
+    → MatchResult loaded (λ s. (is_session b ≡ true) × (s ≡ decode b)) (λ e. (is_session b ≡ false) × (e ≡ BadMarkOrLength))
+    → MatchResult loaded (λ s. IsOkAnd answer (P s)) (λ e. answer ≡ Err e)
+    → r ≡ packed (answer_number answer) 0 (answer_length answer) (answer_transaction answer)
+    → ((s : AuthenticatedContext) (a : Accepted) → P s a → (packed 0 0 a.length a.transaction_number ≡ (call s).answer) × ((call s).bytes ≡ []))
+    → Tells kept_session call b r [] []
+unfolding over
+told_by_map call b (Err e) r answer P h m p f = untold call b e h (p ∙ rw m) []
+told_by_map call b (Ok s) r (Ok a) P h m p f = let k = f s a m in told call b s h [] [] (p ∙ k.0) (rw k.1)
+told_by_map call b (Ok s) r (Err e) P h m p f = absurd m

@@ -9,10 +9,9 @@ use answer::Answer;
 pub(crate) fn pack_all(number: u8, scheme: u8, length: u16, value: u16) -> u64
     ensures { result ≡ packed number scheme length value }
 {
-    u64::from(number)
-        + u64::from(scheme) * 0x100
-        + u64::from(length) * 0x1_0000
-        + u64::from(value) * 0x1_0000_0000
+    let [l0, l1] = length.to_le_bytes();
+    let [v0, v1] = value.to_le_bytes();
+    u64::from_le_bytes([number, scheme, l0, l1, v0, v1, 0, 0])
 }
 
 // An answer as C gets it.

@@ -1,5 +1,6 @@
 // The session as C functions: bytes that the caller keeps (specs/Record of crate session). Each call decodes them, and encodes the session that
-// it leaves.
+// it leaves. A call that writes to its output or to the session matches on what `load` gives. With `and_then` it was not proved that a refusal
+// writes nothing: std does not say what a closure that is not called leaves in what it has borrowed.
 ghost use Rattle.std.specs.Prelude.{◌≡◌, true, false, [], length, MatchResult};
 ghost use Rattle.felica_secure.specs.Calls.{Tells, Keeps, MakesKept};
 ghost use Rattle.felica_secure.specs.SessionCalls.{kept_session, call_step, call_set, call_seal, call_receive, call_index, call_number, call_count, call_scheme, call_id, call_nodes};
@@ -129,10 +130,7 @@ pub extern "C" fn felica_session_apply_response(
 pub extern "C" fn felica_session_node_index(session: &[u8], node: u16) -> u64
     ensures { Tells kept_session (call_index node) session.now result [] [] }
 {
-    match load(session) {
-        Ok(context) => pack::pack(Ok(Accepted::sized(context.node_index(node)))),
-        Err(refusal) => pack::pack(Err(refusal)),
-    }
+    pack::pack(load(session).map(|context| Accepted::sized(context.node_index(node))))
 }
 
 // The session's number.
@@ -140,10 +138,7 @@ pub extern "C" fn felica_session_node_index(session: &[u8], node: u16) -> u64
 pub extern "C" fn felica_session_transaction_number(session: &[u8]) -> u64
     ensures { Tells kept_session call_number session.now result [] [] }
 {
-    match load(session) {
-        Ok(context) => pack::pack(Ok(Accepted::numbered(context.transaction_number()))),
-        Err(refusal) => pack::pack(Err(refusal)),
-    }
+    pack::pack(load(session).map(|context| Accepted::numbered(context.transaction_number())))
 }
 
 // How many responses were turned away.
@@ -151,13 +146,10 @@ pub extern "C" fn felica_session_transaction_number(session: &[u8]) -> u64
 pub extern "C" fn felica_session_turned_away(session: &[u8]) -> u64
     ensures { Tells kept_session call_count session.now result [] [] }
 {
-    match load(session) {
-        Ok(context) => pack::pack(Ok(Accepted::sized(context.turned_away()))),
-        Err(refusal) => pack::pack(Err(refusal)),
-    }
+    pack::pack(load(session).map(|context| Accepted::sized(context.turned_away())))
 }
 
-// The session's scheme mark.
+// The session's scheme mark. An `Accepted` has no place for it, so this is no `map`.
 #[unsafe(no_mangle)]
 pub extern "C" fn felica_session_scheme(session: &[u8]) -> u64
     ensures { Tells kept_session call_scheme session.now result [] [] }

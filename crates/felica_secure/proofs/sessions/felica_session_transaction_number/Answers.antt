@@ -1,14 +1,9 @@
-use mathlib.Core.Path.{refl, ◌∙◌}
-use mathlib.Core.List.{[]}
-use Rattle.answer.specs.Outcome.{over}
+use Rattle.std.proofs.Common.{rules}
 use Rattle.felica_secure.specs.Calls.{telling}
 use Rattle.felica_secure.specs.SessionCalls.{call_number}
-use Rattle.felica_secure.proofs.LoadedSessions.{untold, told}
+use Rattle.felica_secure.proofs.LoadedSessions.{told_by_map}
 use Rattle.felica_secure.proofs.sessions.felica_session_transaction_number.Goals as goal
 
-pub returns-in-Ok : goal.returns-in-Ok
-unfolding call_number telling over
-returns-in-Ok c = told call_number _ c.in-Ok.context c.in-Ok.ensures [] [] (c.pack.ensures ∙ rw (c.numbered.ensures.0, c.numbered.ensures.1, c.transaction_number.ensures)) refl
-
-pub returns-in-Err : goal.returns-in-Err
-returns-in-Err c = untold call_number _ c.in-Err.refusal c.in-Err.ensures c.pack-in-Err.ensures []
+pub returns : goal.returns
+unfolding call_number telling
+returns c = told_by_map call_number _ _ _ _ _ c.load.ensures c.map.ensures.cases c.pack.ensures (λ s a k. (search rules, search rules))
