@@ -115,8 +115,8 @@ impl AuthenticatedContext {
         &self.nodes[..self.listed() * 2]
     }
 
-    // The first place of a node in all of nodes, listed or not. With a fixed length the search is faster: of the last of 64 nodes in half of the time
-    // and 138 instructions, where one of the listed nodes alone takes 222.
+    // The first place of a node in all of nodes, listed or not. With a fixed length the search is faster: C's call takes 79 to 116 instructions, with
+    // a search of the listed nodes alone 99 to 200.
     fn first_place(&self, node: u16) -> Option<usize>
         ensures { let all = node_list self.now.nodes in MatchOption result (first_place all node ≡ length all) (λ place. (place ≡ first_place all node) × (place < length all)) }
     {

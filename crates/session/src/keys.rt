@@ -289,7 +289,7 @@ fn key_length(scheme: Scheme) -> usize
 }
 
 // The key of a node (require_des, require_aes). A node that lacks it is refused: OtherAlgorithm where it has a key of the other algorithm, else
-// KeyMissing. In a function of its own the search's loop is aligned: inlined, a derivation takes a twelfth to a seventh longer.
+// KeyMissing. In a function of its own the loop of the search is aligned: inlined, a derivation takes a seventh (DES) to a quarter (AES) longer.
 #[inline(never)]
 fn needed_key(keys: &[u8], scheme: Scheme, node: u16) -> Result<&[u8], Refusal>
     ensures { MatchResult result (λ key. (has (entries keys.now) node (mark_of scheme) ≡ true) × (key.now ≡ key_of (entries keys.now) (mark_of scheme) node) × (length key.now ≡ key_length (mark_of scheme))) (λ e. (has (entries keys.now) node (mark_of scheme) ≡ false) × (lacks (entries keys.now) node (mark_of scheme) ≡ refusing e)) }
