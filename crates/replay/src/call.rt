@@ -30,7 +30,7 @@ impl From<Answer> for Given {
 
 impl From<Refusal> for Given {
     fn from(refusal: Refusal) -> Given {
-        Given::said(refusal.number(), refusal.node())
+        Given::said(refusal.number(), refusal.node().unwrap_or(0))
     }
 }
 
