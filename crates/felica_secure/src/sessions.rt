@@ -1,14 +1,14 @@
 // The session as C functions: bytes that the caller keeps (specs/Record of crate session). Each call decodes them, and encodes the session that
-// it leaves. A call that writes to its output or to the session matches on what `load` gives. With `and_then` it was not proved that a refusal
-// writes nothing: std does not say what a closure that is not called leaves in what it has borrowed.
+// it leaves.
 ghost use Rattle.std.specs.Prelude.{◌≡◌, true, false, [], length, MatchResult};
-ghost use Rattle.felica_secure.specs.Calls.{Tells, Keeps, MakesKept};
+ghost use Rattle.felica_secure.specs.Calls.{Call, Tells, Keeps, MakesKept};
+ghost use Rattle.felica_secure.specs.inner.SessionClosures.{Telling, Keeping};
 ghost use Rattle.felica_secure.specs.SessionCalls.{kept_session, call_step, call_set, call_seal, call_receive, call_index, call_number, call_count, call_scheme, call_id, call_nodes};
 ghost use Rattle.session.specs.Record.{encode, decode, is_session};
 ghost use Rattle.session.specs.Session.{make_rows, established};
 
 use crate::pack;
-use answer::{Accepted, Refusal, Scheme};
+use answer::{Accepted, Answer, Refusal, Scheme};
 use session::AuthenticatedContext;
 
 // The session of these bytes, where they are one: their size, the version, the scheme mark, at most 64 nodes.
@@ -33,6 +33,41 @@ fn store(context: &AuthenticatedContext, bytes: &mut [u8])
     ensures { (bytes.new ≡ encode context.now) × (decode bytes.new ≡ context.now) }
 {
     bytes.copy_from_slice(&context.encode());
+}
+
+// What a call answers of the session of these bytes, and writes to out. Bytes that are no session are refused, and nothing is written. The call is
+// given out: std's `and_then` does not say what a closure that is not called leaves in what it has borrowed.
+fn tell<F: FnOnce(AuthenticatedContext, &mut [u8]) -> Answer>(
+    session: &[u8],
+    out: &mut [u8],
+    call: F,
+) -> u64
+    requires { F.IsAlwaysCallable call }
+    ensures { (called : AuthenticatedContext → Call AuthenticatedContext) → Telling (F.post call) (decode session.now) out.old called → Tells kept_session called session.now result out.old out.new }
+{
+    match load(session) {
+        Ok(context) => pack::pack(call(context, out)),
+        Err(refusal) => pack::pack(Err(refusal)),
+    }
+}
+
+// The same of a call that changes the session. What it leaves is written over the bytes.
+fn keep<F: FnOnce(&mut AuthenticatedContext, &mut [u8]) -> Answer>(
+    session: &mut [u8],
+    out: &mut [u8],
+    call: F,
+) -> u64
+    requires { F.IsAlwaysCallable call }
+    ensures { (called : AuthenticatedContext → Call AuthenticatedContext) → Keeping (F.post call) (decode session.old) out.old called → Keeps kept_session called session.old session.new result out.old out.new }
+{
+    match load(session) {
+        Ok(mut context) => {
+            let answer = call(&mut context, out);
+            store(&context, session);
+            pack::pack(answer)
+        }
+        Err(refusal) => pack::pack(Err(refusal)),
+    }
 }
 
 // Makes a session.
@@ -64,14 +99,11 @@ pub extern "C" fn felica_session_new(
 pub extern "C" fn felica_session_increment_transaction_number(session: &mut [u8]) -> u64
     ensures { Keeps kept_session call_step session.old session.new result [] [] }
 {
-    match load(session) {
-        Ok(mut context) => {
-            let answer = context.increment_transaction_number();
-            store(&context, session);
-            pack::pack(answer)
-        }
-        Err(refusal) => pack::pack(Err(refusal)),
-    }
+    keep(
+        session,
+        &mut [],
+        |context, _| context.increment_transaction_number(),
+    )
 }
 
 // Sets the number.
@@ -79,14 +111,10 @@ pub extern "C" fn felica_session_increment_transaction_number(session: &mut [u8]
 pub extern "C" fn felica_session_set_transaction_number(session: &mut [u8], number: u16) -> u64
     ensures { Keeps kept_session (call_set number) session.old session.new result [] [] }
 {
-    match load(session) {
-        Ok(mut context) => {
-            context.set_transaction_number(number);
-            store(&context, session);
-            pack::pack(Ok(Accepted::sized(0)))
-        }
-        Err(refusal) => pack::pack(Err(refusal)),
-    }
+    keep(session, &mut [], |context, _| {
+        context.set_transaction_number(number);
+        Ok(Accepted::sized(0))
+    })
 }
 
 // Seals a command with the session's number.
@@ -99,10 +127,11 @@ pub extern "C" fn felica_session_encrypt_command(
 ) -> u64
     ensures { Tells kept_session (call_seal code payload.now (length out.old)) session.now result out.old out.new }
 {
-    match load(session) {
-        Ok(context) => pack::pack(context.encrypt_command(code, payload, out)),
-        Err(refusal) => pack::pack(Err(refusal)),
-    }
+    tell(
+        session,
+        out,
+        |context, out| context.encrypt_command(code, payload, out),
+    )
 }
 
 // Opens a response, and takes its number.
@@ -115,14 +144,11 @@ pub extern "C" fn felica_session_apply_response(
 ) -> u64
     ensures { Keeps kept_session (call_receive code «data».now (length out.old)) session.old session.new result out.old out.new }
 {
-    match load(session) {
-        Ok(mut context) => {
-            let answer = context.apply_response(code, data, out);
-            store(&context, session);
-            pack::pack(answer)
-        }
-        Err(refusal) => pack::pack(Err(refusal)),
-    }
+    keep(
+        session,
+        out,
+        |context, out| context.apply_response(code, data, out),
+    )
 }
 
 // The first place of a node.
@@ -165,10 +191,11 @@ pub extern "C" fn felica_session_scheme(session: &[u8]) -> u64
 pub extern "C" fn felica_session_transaction_id(session: &[u8], out: &mut [u8]) -> u64
     ensures { Tells kept_session (call_id (length out.old)) session.now result out.old out.new }
 {
-    match load(session) {
-        Ok(context) => pack::pack(answer::deliver(0, &context.transaction_id(), out)),
-        Err(refusal) => pack::pack(Err(refusal)),
-    }
+    tell(
+        session,
+        out,
+        |context, out| answer::deliver(0, &context.transaction_id(), out),
+    )
 }
 
 // The session's nodes, as bytes.
@@ -176,8 +203,9 @@ pub extern "C" fn felica_session_transaction_id(session: &[u8], out: &mut [u8]) 
 pub extern "C" fn felica_session_nodes(session: &[u8], out: &mut [u8]) -> u64
     ensures { Tells kept_session (call_nodes (length out.old)) session.now result out.old out.new }
 {
-    match load(session) {
-        Ok(context) => pack::pack(answer::deliver(0, context.listed_nodes(), out)),
-        Err(refusal) => pack::pack(Err(refusal)),
-    }
+    tell(
+        session,
+        out,
+        |context, out| answer::deliver(0, context.listed_nodes(), out),
+    )
 }

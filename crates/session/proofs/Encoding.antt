@@ -2,12 +2,14 @@
 use mathlib.Core.Path.{◌≡◌, refl, sym, ap, ◌∙◌}
 use mathlib.Core.Bool.{Bool, true, false}
 use mathlib.Core.List.{List, [], ◌∷◌, ◌++◌, append-nil, append_assoc}
-use Prim.Native.Nat.{ℕ, ◌+◌, ◌*◌, ◌/◌, ◌%◌, ◌<◌}
+use Prim.Native.Nat.{ℕ, ◌+◌, ◌*◌, ◌/◌, ◌%◌, ◌≤◌, ◌<◌}
+use native.Mathlib.Nat.{min-le_left}
 use native.Mathlib.Omega.{arith}
 use borrow.Author.Tests.{eq-eqb, ne_eqb, eqb-true, lt-ltb, ltb-true, ltb-false}
 use lib.Dec.{eqb, ltb, lit≤, lit<}
 use lib.ListN.{length, take, drop, get_or, replicate, length-append, length-drop, take-append-drop}
 use lib.Seq.{take_at, drop_at, take_all, get_or-drop, drop-drop}
+use Rattle.std.proofs.lemmas.List.{length-take}
 use Rattle.cipher.specs.Bytes.{Bytes}
 use Rattle.answer.specs.Number.{number_bytes, number_of}
 use Rattle.answer.specs.Outcome.{choose, over}
@@ -54,6 +56,15 @@ module _ (b : List ℕ) where
   session_version h = eqb-true (get_or b 0 0) 1 (both_true _ _ (both_true _ _ h).1).0
 
 -- ---- encoding
+
+-- how long the parts of a decoded session are, at most
+pub decoded_id : (b : List ℕ) → length (decode b).transaction_id ≤ 6
+unfolding decode
+decoded_id b = rw (length-take 6 (drop 8 b)) (min-le_left 6 (length (drop 8 b)))
+
+pub decoded_nodes : (b : List ℕ) → length (decode b).nodes ≤ 128
+unfolding decode
+decoded_nodes b = rw (length-take 128 (drop 50 b)) (min-le_left 128 (length (drop 50 b)))
 
 -- a session's parts, taken out of its bytes
 pub decoded : (b id credentials nodes : List ℕ) (number listed turned : ℕ) → id ≡ take 6 (drop 8 b) → credentials ≡ take 36 (drop 14 b) → nodes ≡ take 128 (drop 50 b)

@@ -1,18 +1,22 @@
-use mathlib.Core.Path.{◌∙◌}
+use mathlib.Core.Path.{refl}
 use native.Mathlib.Omega.{arith}
-use lib.ListN.{length}
+use Prim.Native.Nat.{◌*◌}
+use Rattle.std.proofs.Common.{rules}
+use lib.ListN.{length, take}
+use Rattle.answer.specs.Delivery.{delivering, Delivers}
 use Rattle.answer.proofs.Pieces.{no_longer}
 use Rattle.answer.proofs.Rows.{delivers_meets}
+use Rattle.session.specs.Record.{decode}
+use Rattle.session.specs.Session.{listed_count}
 use Rattle.felica_secure.specs.Calls.{answering}
 use Rattle.felica_secure.specs.SessionCalls.{call_nodes}
-use Rattle.felica_secure.proofs.LoadedSessions.{untold, told}
+use Rattle.session.proofs.Encoding.{decoded_nodes}
 use Rattle.felica_secure.proofs.sessions.felica_session_nodes.Goals as goal
 
-pub returns-in-Ok : goal.returns-in-Ok
+pub returns : goal.returns
 unfolding call_nodes answering
-returns-in-Ok c =
-    let m = rw c.listed_nodes.ensures at (delivers_meets _ _ _ c.deliver.ensures (no_longer _ 65535 _ _ c.listed_nodes.ensures (omega arith))) in
-    told (call_nodes (length c.args.out.now)) _ c.in-Ok.context c.in-Ok.ensures c.args.out.now _ (c.pack.ensures ∙ rw (m.number, m.length_is, m.transaction)) m.output
-
-pub returns-in-Err : goal.returns-in-Err
-returns-in-Err c = untold (call_nodes (length c.args.out.now)) _ c.in-Err.refusal c.in-Err.ensures c.pack-in-Err.ensures c.args.out.now
+returns c = c.tell.ensures (call_nodes (length c.args.out.now)) (λ x y r e k.
+    let s = decode c.args.session.now in
+    let d : Delivers (delivering 0 (take (listed_count s.node_count * 2) s.nodes) (length c.args.out.now)) r c.args.out.now y.now = search rules in
+    let m = delivers_meets _ _ _ d (no_longer _ 65535 _ _ refl (omega (arith, decoded_nodes c.args.session.now))) in
+    (rw (m.number, m.length_is, m.transaction), m.output))

@@ -1,17 +1,17 @@
-use mathlib.Core.Path.{◌∙◌}
 use native.Mathlib.Omega.{arith}
+use Rattle.std.proofs.Common.{rules}
 use lib.ListN.{length}
+use Rattle.answer.specs.Delivery.{delivering, Delivers}
 use Rattle.answer.proofs.Rows.{delivers_meets}
+use Rattle.session.specs.Record.{decode}
 use Rattle.felica_secure.specs.Calls.{answering}
 use Rattle.felica_secure.specs.SessionCalls.{call_id}
-use Rattle.felica_secure.proofs.LoadedSessions.{untold, told}
+use Rattle.session.proofs.Encoding.{decoded_id}
 use Rattle.felica_secure.proofs.sessions.felica_session_transaction_id.Goals as goal
 
-pub returns-in-Ok : goal.returns-in-Ok
+pub returns : goal.returns
 unfolding call_id answering
-returns-in-Ok c =
-    let m = rw c.transaction_id.ensures at (delivers_meets _ _ _ c.deliver.ensures (omega arith)) in
-    told (call_id (length c.args.out.now)) _ c.in-Ok.context c.in-Ok.ensures c.args.out.now _ (c.pack.ensures ∙ rw (m.number, m.length_is, m.transaction)) m.output
-
-pub returns-in-Err : goal.returns-in-Err
-returns-in-Err c = untold (call_id (length c.args.out.now)) _ c.in-Err.refusal c.in-Err.ensures c.pack-in-Err.ensures c.args.out.now
+returns c = c.tell.ensures (call_id (length c.args.out.now)) (λ x y r e k.
+    let d : Delivers (delivering 0 (decode c.args.session.now).transaction_id (length c.args.out.now)) r c.args.out.now y.now = search rules in
+    let m = delivers_meets _ _ _ d (omega (arith, decoded_id c.args.session.now)) in
+    (rw (m.number, m.length_is, m.transaction), m.output))
