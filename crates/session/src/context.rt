@@ -1,5 +1,5 @@
 // The session after authentication (AuthenticatedContext of mod.rs).
-ghost use Rattle.std.specs.Prelude.{◌≡◌, ◌*◌, ◌<◌, ◌≤◌, length, take, MatchOption};
+ghost use Rattle.std.specs.Prelude.{◌≡◌, ◌≢◌, ◌+◌, ◌*◌, ◌<◌, ◌≤◌, length, take, MatchOption, MatchResult};
 ghost use Rattle.answer.specs.Outcome.{Meets};
 ghost use Rattle.answer.specs.Refusal.{refusal_number};
 ghost use Rattle.session.specs.Session.{Makes, with_number, StepsTo, Steps, counting, listed_count, first_place, index, Receives, receiving, credentials_size, credentials_of};
@@ -153,24 +153,33 @@ impl AuthenticatedContext {
         self.transaction_number = value;
     }
 
-    // The number step by value.
-    pub fn step(self) -> Result<AuthenticatedContext, Refusal>
-        ensures { StepsTo self result }
+    // The number after the session's.
+    fn next_number(&self) -> Result<u16, Refusal>
+        ensures { MatchResult result (λ next. (self.now.transaction_number ≢ 0xFFFF) × (next ≡ self.now.transaction_number + 1)) (λ e. (self.now.transaction_number ≡ 0xFFFF) × (e ≡ Refusal.NumberExhausted)) }
     {
         let number = self.transaction_number;
         let full = number == u16::MAX;
         if full {
             return Err(Refusal::NumberExhausted);
         }
-        Ok(self.with_transaction_number(number + 1))
+        Ok(number + 1)
+    }
+
+    // The number step by value.
+    pub fn step(self) -> Result<AuthenticatedContext, Refusal>
+        ensures { StepsTo self result }
+    {
+        let next = self.next_number()?;
+        Ok(self.with_transaction_number(next))
     }
 
     // The next number, before a command is sealed. A refusal leaves the session as it was.
     pub fn increment_transaction_number(&mut self) -> Answer
         ensures { Steps self.old result self.new }
     {
-        *self = self.step()?;
-        Ok(Accepted::numbered(self.transaction_number))
+        let next = self.next_number()?;
+        self.set_transaction_number(next);
+        Ok(Accepted::numbered(next))
     }
 
     // Opens a response, and takes its number. A refusal changes nothing but the count.
