@@ -68,6 +68,21 @@ impl Wanted {
         Wanted::new(fields.number(number)?, 0, 0, fields.bytes(bytes)?)
     }
 
+    // An answer that has a value too: the fields where its number, its value and its bytes are.
+    pub(crate) fn opened(
+        fields: &Fields,
+        number: usize,
+        value: usize,
+        bytes: usize,
+    ) -> Result<Wanted, FieldError> {
+        Wanted::new(
+            fields.number(number)?,
+            fields.number(value)?,
+            0,
+            fields.bytes(bytes)?,
+        )
+    }
+
     // An answer with a value and no bytes.
     pub(crate) fn value(fields: &Fields, number: u8, value: u16) -> Result<Wanted, FieldError> {
         Wanted::new(number, value, 0, Vec::new(*fields.texts.allocator()))

@@ -1,5 +1,5 @@
-// Challenges and the AES session keys: a case's inputs, and the call. Field 1 says which challenge a case is about: none of
-// another name is given.
+// Challenges and the AES session keys: a case's inputs, and the call. Field 1 says which challenge a case is about; a name that is none gives no
+// answer.
 use crate::call::{Wanted, answered};
 use textfile::{FieldError, Fields};
 
@@ -68,8 +68,8 @@ pub(crate) fn read(fields: &Fields) -> Result<bool, FieldError> {
 
 pub(crate) fn check(fields: &Fields) -> Result<bool, FieldError> {
     let which = fields.get(1)?;
-    let block = fields.bytes(7)?;
     let wanted = Wanted::value(fields, fields.number(8)?, 0)?;
+    let block = fields.bytes(7)?;
     let Inputs {
         scheme,
         idm,
@@ -90,9 +90,9 @@ pub(crate) fn check(fields: &Fields) -> Result<bool, FieldError> {
 
 // The IDm and the keys of a case are the original's: random 2 alone enters.
 pub(crate) fn session_keys(fields: &Fields) -> Result<bool, FieldError> {
+    let wanted = Wanted::bytes(fields, 4, 5)?;
     fields.bytes(1)?;
     fields.bytes(2)?;
     let random = fields.bytes(3)?;
-    let wanted = Wanted::bytes(fields, 4, 5)?;
     Ok(wanted.is_given(|out| answered(session::derive_secure_session_keys(&random, out))))
 }

@@ -7,64 +7,56 @@
 #![tactic(auto)]
 
 mod call;
+mod case;
 mod challenge;
 mod corners;
 mod derive;
 mod ends;
 mod note;
 mod sealed;
-mod set;
 mod steps;
 
 use answer::Scheme;
 use note::Checks;
-use set::Form;
 use std::io;
-use std::rt::Files;
 use textfile::Tally;
+
+static FILES: [&str; 24] = [
+    "seal_des.txt",
+    "seal_aes.txt",
+    "frame_des.txt",
+    "frame_aes.txt",
+    "open_des_1.txt",
+    "open_des_2.txt",
+    "open_aes_1.txt",
+    "open_aes_2.txt",
+    "auth2seal.txt",
+    "auth2open_des.txt",
+    "auth2open_aes.txt",
+    "package_1.txt",
+    "package_2.txt",
+    "derive_1.txt",
+    "derive_2.txt",
+    "derive_3.txt",
+    "keyfree.txt",
+    "make.txt",
+    "read.txt",
+    "check.txt",
+    "session_keys.txt",
+    "step.txt",
+    "index.txt",
+    "apply.txt",
+];
 
 fn main(rt: HostRuntime) -> io::Result<()> {
     textfile::print_head(&rt)?;
-    let all = sealed_cases(&rt)? + session_cases(&rt)? + own_runs(&rt)?;
+    let mut all = Tally::default();
+    for file in &FILES {
+        all += textfile::run_file(&rt, file, |line| case::run(rt.alloc(), line))?;
+    }
+    all += own_runs(&rt)?;
     textfile::print_sum(&rt, all)?;
     textfile::print_departed(&rt, all, "of them depart from the original")
-}
-
-fn sealed_cases<R: Files + Print + AllocGlobal>(rt: &R) -> io::Result<Tally> {
-    let mut all = Form::new("seal", 9).run(rt, &["seal_des.txt", "seal_aes.txt"], sealed::seal)?;
-    all += Form::new("frame", 9).run(rt, &["frame_des.txt", "frame_aes.txt"], sealed::frame)?;
-    all += Form::new("open", 9).run(
-        rt,
-        &[
-            "open_des_1.txt",
-            "open_des_2.txt",
-            "open_aes_1.txt",
-            "open_aes_2.txt",
-        ],
-        sealed::open,
-    )?;
-    all += Form::new("auth2seal", 5).run(rt, &["auth2seal.txt"], sealed::auth2_seal)?;
-    all += Form::new("auth2open_des", 5).run(rt, &["auth2open_des.txt"], sealed::auth2_open_des)?;
-    all += Form::new("auth2open_aes", 7).run(rt, &["auth2open_aes.txt"], sealed::auth2_open_aes)?;
-    all += Form::new("package", 5).run(rt, &["package_1.txt", "package_2.txt"], sealed::package)?;
-    Ok(all)
-}
-
-fn session_cases<R: Files + Print + AllocGlobal>(rt: &R) -> io::Result<Tally> {
-    let mut all = Form::new("derive", 10).run(
-        rt,
-        &["derive_1.txt", "derive_2.txt", "derive_3.txt"],
-        derive::keys,
-    )?;
-    all += Form::new("keyfree", 3).run(rt, &["keyfree.txt"], derive::key_free)?;
-    all += Form::new("make", 9).run(rt, &["make.txt"], challenge::make)?;
-    all += Form::new("read", 9).run(rt, &["read.txt"], challenge::read)?;
-    all += Form::new("check", 9).run(rt, &["check.txt"], challenge::check)?;
-    all += Form::new("session_keys", 6).run(rt, &["session_keys.txt"], challenge::session_keys)?;
-    all += Form::new("step", 4).run(rt, &["step.txt"], steps::step)?;
-    all += Form::new("index", 5).run(rt, &["index.txt"], steps::index)?;
-    all += Form::new("apply", 9).run(rt, &["apply.txt"], steps::apply)?;
-    Ok(all)
 }
 
 // The runs that have no file.

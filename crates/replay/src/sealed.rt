@@ -95,12 +95,12 @@ pub(crate) fn frame(fields: &Fields) -> Result<bool, FieldError> {
 
 // An opened response, and the one opened by the scheme's own operation.
 pub(crate) fn open(fields: &Fields) -> Result<bool, FieldError> {
+    let wanted = Wanted::opened(fields, 6, 7, 8)?;
     let scheme = fields.number(1)?;
     let code = fields.number(2)?;
     let id = fields.bytes(3)?;
     let credentials = fields.bytes(4)?;
     let sealed = fields.bytes(5)?;
-    let wanted = Wanted::new(fields.number(6)?, fields.number(7)?, 0, fields.bytes(8)?)?;
     let both = wanted.is_given(|out| {
         answered(frame::decrypt_response(scheme, code, &id, &credentials, &sealed, out))
     });
@@ -121,9 +121,9 @@ pub(crate) fn under_key<F: Fn(&[u8], &[u8], &mut [u8]) -> Answer>(
 ) -> Result<bool, FieldError>
     requires { F.IsAlwaysCallable call }
 {
+    let wanted = Wanted::bytes(fields, 3, 4)?;
     let key = fields.bytes(1)?;
     let text = fields.bytes(2)?;
-    let wanted = Wanted::bytes(fields, 3, 4)?;
     Ok(wanted.is_given(|out| answered(call(&key, &text, out))))
 }
 
@@ -149,10 +149,10 @@ pub(crate) fn package(fields: &Fields) -> Result<bool, FieldError> {
 }
 
 pub(crate) fn auth2_open_aes(fields: &Fields) -> Result<bool, FieldError> {
+    let wanted = Wanted::opened(fields, 4, 5, 6)?;
     let id = fields.bytes(1)?;
     let credentials = fields.bytes(2)?;
     let sealed = fields.bytes(3)?;
-    let wanted = Wanted::new(fields.number(4)?, fields.number(5)?, 0, fields.bytes(6)?)?;
     Ok(wanted.is_given(|out| {
         answered(frame::decrypt_authentication2_payload_v2_aes128(&id, &credentials, &sealed, out))
     }))

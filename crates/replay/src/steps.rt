@@ -10,8 +10,8 @@ fn made(number: u16, nodes: &[u8]) -> Result<AuthenticatedContext, Refusal> {
 }
 
 pub(crate) fn step(fields: &Fields) -> Result<bool, FieldError> {
-    let number = fields.number(1)?;
     let wanted = Wanted::value(fields, fields.number(2)?, fields.number(3)?)?;
+    let number = fields.number(1)?;
     Ok(wanted.is_given(|_| stepped(number)))
 }
 
@@ -46,9 +46,9 @@ fn turns_away(refusal: Refusal) -> bool {
 }
 
 pub(crate) fn index(fields: &Fields) -> Result<bool, FieldError> {
+    let wanted = Wanted::value(fields, fields.number(3)?, fields.number(4)?)?;
     let nodes = fields.bytes(1)?;
     let node = fields.number(2)?;
-    let wanted = Wanted::value(fields, fields.number(3)?, fields.number(4)?)?;
     Ok(wanted.is_given(|_| {
         Some(match made(0, &nodes) {
             Ok(context) => Given::said(0, context.node_index(node)),
@@ -58,12 +58,12 @@ pub(crate) fn index(fields: &Fields) -> Result<bool, FieldError> {
 }
 
 pub(crate) fn apply(fields: &Fields) -> Result<bool, FieldError> {
+    let wanted = Wanted::opened(fields, 6, 7, 8)?;
     let number = fields.number(1)?;
+    let code = fields.number(4)?;
     let id = fields.bytes(2)?;
     let key = fields.bytes(3)?;
-    let code = fields.number(4)?;
     let sealed = fields.bytes(5)?;
-    let wanted = Wanted::new(fields.number(6)?, fields.number(7)?, 0, fields.bytes(8)?)?;
     Ok(wanted.is_given(|out| {
         let mut context = AuthenticatedContext::new(1, number, &id, &key, &[]).ok()?;
         let answer = context.apply_response(code, &sealed, out);

@@ -1,0 +1,39 @@
+// One line of a data file: a case, read and put to its operation.
+use crate::{challenge, derive, sealed, steps};
+use std::alloc::Global;
+use textfile::{FieldError, Fields, Verdict};
+
+// What comes of a line.
+pub(crate) fn run(alloc: Global, line: &str) -> Result<Verdict, FieldError> {
+    let departing = line.strip_suffix(" departs");
+    let agrees = agrees(alloc, departing.unwrap_or(line))?;
+    if agrees && departing.is_some() {
+        Ok(Verdict::Departs)
+    } else {
+        Ok(Verdict::from(agrees))
+    }
+}
+
+// Whether all calls of a case agree. Its first field names what it asks for, and with that name a case has so many fields.
+fn agrees(alloc: Global, case: &str) -> Result<bool, FieldError> {
+    let fields = Fields::new(alloc, case)?;
+    match (fields.get(0)?, fields.texts.len()) {
+        ("seal", 9) => sealed::seal(&fields),
+        ("frame", 9) => sealed::frame(&fields),
+        ("open", 9) => sealed::open(&fields),
+        ("auth2seal", 5) => sealed::auth2_seal(&fields),
+        ("auth2open_des", 5) => sealed::auth2_open_des(&fields),
+        ("auth2open_aes", 7) => sealed::auth2_open_aes(&fields),
+        ("package", 5) => sealed::package(&fields),
+        ("derive", 10) => derive::keys(&fields),
+        ("keyfree", 3) => derive::key_free(&fields),
+        ("make", 9) => challenge::make(&fields),
+        ("read", 9) => challenge::read(&fields),
+        ("check", 9) => challenge::check(&fields),
+        ("session_keys", 6) => challenge::session_keys(&fields),
+        ("step", 4) => steps::step(&fields),
+        ("index", 5) => steps::index(&fields),
+        ("apply", 9) => steps::apply(&fields),
+        _ => Err(FieldError::Malformed),
+    }
+}
