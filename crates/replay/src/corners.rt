@@ -97,9 +97,9 @@ fn leaves(refusal: Option<Refusal>, number: u16, count: u16) -> Outcome {
     }
 }
 
-// The response step, in one scheme, where a sealed response has N bytes: the number that the session is given before it, if any; the response, how many bytes the output has, and what is
-// to come of it. Another ID is told by the ID in DES and by the MAC in AES, and comes before a number that is not above; that comes before an output
-// that is too small, which is not counted.
+// The response step, in one scheme, where a sealed response has N bytes: the number that the session is given before it, if any; the response, how
+// many bytes the output has, and what is to come of it. Another ID is told by the ID in DES and by the MAC in AES, and comes before a number that is
+// not above; that comes before an output that is too small, which is not counted.
 pub(crate) fn responses<const N: usize>(checks: &mut Checks, scheme: Scheme)
     requires { N ≤ 64 }
 {

@@ -3,10 +3,11 @@ use answer::Answer;
 use std::io;
 use textfile::{Tally, Verdict};
 
+// How many checks ran, and how many of them hold.
 #[derive(Clone, Copy, Default)]
 pub(crate) struct Checks {
     tally: Tally,
-    // The place of the first that does not hold.
+    // the place of the first that does not hold
     fault: Option<u64>,
 }
 
@@ -26,7 +27,7 @@ impl Checks {
         }));
     }
 
-    // Prints the run's row, and before it the place of a check that does not hold, as a line's is. A title stands in the place of a file's first line.
+    // Prints the place of the first check that does not hold, as a line's is, and the run's row, with a title in the place of a file's first line.
     pub(crate) fn print(self, rt: &impl Print, run: &str, title: &str) -> io::Result<Tally> {
         if let Some(place) = self.fault {
             textfile::counted(rt, Ok(Verdict::Differs), run, place)?;

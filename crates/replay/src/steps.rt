@@ -21,8 +21,8 @@ fn stepped(number: u16) -> Option<Given> {
     told(answer, number, context)
 }
 
-// What a step answers, if the session is as it has to be after it: it has the number that the answer gives, and after a refusal the one it had; and it
-// has counted a response that was turned away, and nothing else.
+// What a step answers, if the session is as it has to be after it: it has the number that the answer gives, and after a refusal the one it had; and
+// it has counted a response that was turned away, and nothing else.
 fn told(answer: Answer, before: u16, after: AuthenticatedContext) -> Option<Given> {
     let (number, count) = match answer {
         Ok(accepted) => (accepted.transaction_number, 0),
