@@ -1,12 +1,12 @@
 // The session's steps: a case's inputs, the call, and the session after it.
 use crate::call::{Given, Wanted};
-use answer::{Answer, Refusal};
+use answer::{Answer, Refusal, Scheme};
 use session::AuthenticatedContext;
 use textfile::{FieldError, Fields};
 
 // A session of the DES scheme, its ID and key zeros.
 fn made(number: u16, nodes: &[u8]) -> Result<AuthenticatedContext, Refusal> {
-    AuthenticatedContext::new(1, number, &[0; 6], &[0; 8], nodes)
+    AuthenticatedContext::new(Scheme::Des.mark(), number, &[0; 6], &[0; 8], nodes)
 }
 
 pub(crate) fn step(fields: &Fields) -> Result<bool, FieldError> {
@@ -65,7 +65,13 @@ pub(crate) fn apply(fields: &Fields) -> Result<bool, FieldError> {
     let key = fields.bytes(3)?;
     let sealed = fields.bytes(5)?;
     Ok(wanted.is_given(|out| {
-        let mut context = AuthenticatedContext::new(1, number, &id, &key, &[]).ok()?;
+        let mut context = AuthenticatedContext::new(
+            Scheme::Des.mark(),
+            number,
+            &id,
+            &key,
+            &[],
+        ).ok()?;
         let answer = context.apply_response(code, &sealed, out);
         told(answer, number, context)
     }))
