@@ -15,7 +15,7 @@ use session::AuthenticatedContext;
 fn load(bytes: &[u8]) -> Result<AuthenticatedContext, Refusal>
     ensures { MatchResult result (λ s. (is_session bytes.now ≡ true) × (s ≡ decode bytes.now)) (λ e. (is_session bytes.now ≡ false) × (e ≡ Refusal.BadMarkOrLength)) }
 {
-    let kept = answer::exact::<178>(bytes)?;
+    let kept = bytes.as_array::<178>().ok_or(Refusal::BadMarkOrLength)?;
     let other = kept[0] != 1;
     if other {
         return Err(Refusal::BadMarkOrLength);
@@ -24,7 +24,7 @@ fn load(bytes: &[u8]) -> Result<AuthenticatedContext, Refusal>
     if 64 < u16::from_le_bytes([kept[6], kept[7]]) {
         return Err(Refusal::BadMarkOrLength);
     }
-    Ok(AuthenticatedContext::decode(kept))
+    Ok(AuthenticatedContext::decode(*kept))
 }
 
 // Writes a session over its bytes.

@@ -27,30 +27,32 @@ unfolding either
 no_mark mark h g = rw (ne_eqb mark 1 h, ne_eqb mark 2 g)
 
 pub returns-in_err-kept : goal.returns-in_err-kept
-returns-in_err-kept c = no_session _ c.in_err-kept.field-0.0 (search rules) (other_size _ c.in_err-kept.ensures.0) c.in_err-kept.ensures.1
+returns-in_err-kept c =
+    let k = c.in_err-kept.ensures in
+    no_session _ c.in_err-kept.field-0.0 (search rules) (other_size _ (search rules)) (search rules)
 
 pub returns-then-other : goal.returns-then-other
 returns-then-other c =
-    let k = c.in_ok-kept.ensures in
-    let v : get_or c.args.bytes.now 0 0 ≡ 1 → ⊥ = rw k.1 at c.if-other.true in
-    (sym (other_version _ k.0 v), refl)
+    let k = rw c.in_ok-kept.ensures.ok_part at c.as_array.ensures.cases in
+    let v : get_or c.args.bytes.now 0 0 ≡ 1 → ⊥ = rw k.same at c.if-other.true in
+    (sym (other_version _ k.long v), refl)
 
 pub returns-in_err-try_from : goal.returns-in_err-try_from
 returns-in_err-try_from c =
-    let k = c.in_ok-kept.ensures in
-    let m = rw k.1 at c.in_err-try_from.ensures in
-    no_session _ c.in_err-try_from.field-0.0 (search rules) (other_mark _ k.0 (rw k.1 at c.if-other.false) (no_mark _ m.1 m.2)) m.0
+    let k = rw c.in_ok-kept.ensures.ok_part at c.as_array.ensures.cases in
+    let m = rw k.same at c.in_err-try_from.ensures in
+    no_session _ c.in_err-try_from.field-0.0 (search rules) (other_mark _ k.long (rw k.same at c.if-other.false) (no_mark _ m.1 m.2)) m.0
 
 pub returns-then-from_le_bytes-gt64 : goal.returns-then-from_le_bytes-gt64
 returns-then-from_le_bytes-gt64 c =
     let b = c.args.bytes.now in
-    let k = c.in_ok-kept.ensures in
-    let n : c.from_le_bytes.result ≡ get_or b 6 0 + get_or b 7 0 * 256 = rw k.1 at c.from_le_bytes.ensures in
-    (sym (by_count b k.0 (rw k.1 at c.if-other.false) (known_mark _ _ (rw k.1 at c.in_ok-try_from.ensures)) _ n) ∙ le-ltb _ 65 (omega (arith, c.if-from_le_bytes-gt64.true)), refl)
+    let k = rw c.in_ok-kept.ensures.ok_part at c.as_array.ensures.cases in
+    let n : c.from_le_bytes.result ≡ get_or b 6 0 + get_or b 7 0 * 256 = rw k.same at c.from_le_bytes.ensures in
+    (sym (by_count b k.long (rw k.same at c.if-other.false) (known_mark _ _ (rw k.same at c.in_ok-try_from.ensures)) _ n) ∙ le-ltb _ 65 (omega (arith, c.if-from_le_bytes-gt64.true)), refl)
 
 pub returns : goal.returns
 returns c =
     let b = c.args.bytes.now in
-    let k = c.in_ok-kept.ensures in
-    let n : c.from_le_bytes.result ≡ get_or b 6 0 + get_or b 7 0 * 256 = rw k.1 at c.from_le_bytes.ensures in
-    (sym (by_count b k.0 (rw k.1 at c.if-other.false) (known_mark _ _ (rw k.1 at c.in_ok-try_from.ensures)) _ n) ∙ lt-ltb _ 65 (omega (arith, c.if-from_le_bytes-gt64.false)), c.decode.ensures ∙ ap decode k.1)
+    let k = rw c.in_ok-kept.ensures.ok_part at c.as_array.ensures.cases in
+    let n : c.from_le_bytes.result ≡ get_or b 6 0 + get_or b 7 0 * 256 = rw k.same at c.from_le_bytes.ensures in
+    (sym (by_count b k.long (rw k.same at c.if-other.false) (known_mark _ _ (rw k.same at c.in_ok-try_from.ensures)) _ n) ∙ lt-ltb _ 65 (omega (arith, c.if-from_le_bytes-gt64.false)), c.decode.ensures ∙ ap decode k.same)
