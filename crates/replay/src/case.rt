@@ -4,9 +4,9 @@ use std::alloc::Global;
 use textfile::{FieldError, Fields, Verdict};
 
 // What comes of a line.
-pub(crate) fn run(alloc: Global, line: &str) -> Result<Verdict, FieldError> {
+pub(crate) fn run(alloc: Global, operation: &str, line: &str) -> Result<Verdict, FieldError> {
     let departing = line.strip_suffix(" departs");
-    let agrees = agrees(alloc, departing.unwrap_or(line))?;
+    let agrees = agrees(alloc, operation, departing.unwrap_or(line))?;
     if agrees && departing.is_some() {
         Ok(Verdict::Departs)
     } else {
@@ -14,10 +14,13 @@ pub(crate) fn run(alloc: Global, line: &str) -> Result<Verdict, FieldError> {
     }
 }
 
-// Whether all calls of a case agree. Its first field names what it asks for, and with that name a case has so many fields.
-fn agrees(alloc: Global, case: &str) -> Result<bool, FieldError> {
+// Whether all calls of a case agree. Its first field names its file's operation, and with that name a case has so many fields.
+fn agrees(alloc: Global, operation: &str, case: &str) -> Result<bool, FieldError> {
     let fields = Fields::new(alloc, case)?;
-    match (fields.get(0)?, fields.texts.len()) {
+    if fields.get(0)? != operation {
+        return Err(FieldError::Malformed);
+    }
+    match (operation, fields.texts.len()) {
         ("seal", 9) => sealed::seal(&fields),
         ("frame", 9) => sealed::frame(&fields),
         ("open", 9) => sealed::open(&fields),

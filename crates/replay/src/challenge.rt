@@ -1,5 +1,4 @@
-// Challenges and the AES session keys: a case's inputs, and the call. Field 1 says which challenge a case is about; a name that is none gives no
-// answer.
+// Challenges and the AES session keys: a case's inputs, and the call. Field 1 says which challenge a case is about.
 use crate::call::{Wanted, answered};
 use textfile::{FieldError, Fields};
 
@@ -26,8 +25,18 @@ impl Inputs {
     }
 }
 
+// The challenge that a case is about, which has to be one of these.
+fn one_of<'a>(fields: &Fields<'a>, names: &[&str]) -> Result<&'a str, FieldError> {
+    let name = fields.get(1)?;
+    if names.contains(&name) {
+        Ok(name)
+    } else {
+        Err(FieldError::Malformed)
+    }
+}
+
 pub(crate) fn make(fields: &Fields) -> Result<bool, FieldError> {
-    let which = fields.get(1)?;
+    let which = one_of(fields, &["1a", "1b", "2a", "2b"])?;
     let wanted = Wanted::bytes(fields, 7, 8)?;
     let Inputs {
         scheme,
@@ -48,7 +57,7 @@ pub(crate) fn make(fields: &Fields) -> Result<bool, FieldError> {
 }
 
 pub(crate) fn read(fields: &Fields) -> Result<bool, FieldError> {
-    let which = fields.get(1)?;
+    let which = one_of(fields, &["1a", "2a"])?;
     let wanted = Wanted::bytes(fields, 7, 8)?;
     let Inputs {
         scheme,
@@ -67,7 +76,7 @@ pub(crate) fn read(fields: &Fields) -> Result<bool, FieldError> {
 }
 
 pub(crate) fn check(fields: &Fields) -> Result<bool, FieldError> {
-    let which = fields.get(1)?;
+    let which = one_of(fields, &["1b", "2b"])?;
     let wanted = Wanted::value(fields, fields.number(8)?, 0)?;
     let block = fields.bytes(7)?;
     let Inputs {

@@ -21,38 +21,39 @@ use note::Checks;
 use std::io;
 use textfile::Tally;
 
-static FILES: [&str; 24] = [
-    "seal_des.txt",
-    "seal_aes.txt",
-    "frame_des.txt",
-    "frame_aes.txt",
-    "open_des_1.txt",
-    "open_des_2.txt",
-    "open_aes_1.txt",
-    "open_aes_2.txt",
-    "auth2seal.txt",
-    "auth2open_des.txt",
-    "auth2open_aes.txt",
-    "package_1.txt",
-    "package_2.txt",
-    "derive_1.txt",
-    "derive_2.txt",
-    "derive_3.txt",
-    "keyfree.txt",
-    "make.txt",
-    "read.txt",
-    "check.txt",
-    "session_keys.txt",
-    "step.txt",
-    "index.txt",
-    "apply.txt",
+// Each file, and the operation that its cases name.
+static FILES: [(&str, &str); 24] = [
+    ("seal", "seal_des.txt"),
+    ("seal", "seal_aes.txt"),
+    ("frame", "frame_des.txt"),
+    ("frame", "frame_aes.txt"),
+    ("open", "open_des_1.txt"),
+    ("open", "open_des_2.txt"),
+    ("open", "open_aes_1.txt"),
+    ("open", "open_aes_2.txt"),
+    ("auth2seal", "auth2seal.txt"),
+    ("auth2open_des", "auth2open_des.txt"),
+    ("auth2open_aes", "auth2open_aes.txt"),
+    ("package", "package_1.txt"),
+    ("package", "package_2.txt"),
+    ("derive", "derive_1.txt"),
+    ("derive", "derive_2.txt"),
+    ("derive", "derive_3.txt"),
+    ("keyfree", "keyfree.txt"),
+    ("make", "make.txt"),
+    ("read", "read.txt"),
+    ("check", "check.txt"),
+    ("session_keys", "session_keys.txt"),
+    ("step", "step.txt"),
+    ("index", "index.txt"),
+    ("apply", "apply.txt"),
 ];
 
 fn main(rt: HostRuntime) -> io::Result<()> {
     textfile::print_head(&rt)?;
     let mut all = Tally::default();
-    for file in &FILES {
-        all += textfile::run_file(&rt, file, |line| case::run(rt.alloc(), line))?;
+    for (operation, file) in &FILES {
+        all += textfile::run_file(&rt, file, |line| case::run(rt.alloc(), operation, line))?;
     }
     all += own_runs(&rt)?;
     textfile::print_sum(&rt, all)?;
@@ -60,21 +61,21 @@ fn main(rt: HostRuntime) -> io::Result<()> {
 }
 
 // The runs that have no file.
-fn own_runs(rt: &impl Print) -> io::Result<Tally> {
-    let mut many = Checks::default();
+fn own_runs<R: Print + AllocGlobal>(rt: &R) -> io::Result<Tally> {
+    let mut many = Checks::new(rt.alloc());
     corners::many(&mut many);
-    let mut steps = Checks::default();
+    let mut steps = Checks::new(rt.alloc());
     corners::stepping(&mut steps);
     corners::responses::<24>(&mut steps, Scheme::Des);
     corners::responses::<18>(&mut steps, Scheme::Aes128);
-    let mut ends = Checks::default();
+    let mut ends = Checks::new(rt.alloc());
     ends::with_des(&mut ends, 1);
     ends::with_aes(&mut ends, 2);
     ends::with_des(&mut ends, 0);
     ends::with_aes(&mut ends, 0);
     let mut all = many.print(
         rt,
-        "responses turned away",
+        "the session's corners",
         "# Session: 65,537 responses turned away\n",
     )?;
     all += steps.print(

@@ -1,22 +1,34 @@
 // The checks of a run that has no file: each is counted as a case is.
 use answer::Answer;
+use std::alloc::{AllocError, Global};
 use std::io;
 use textfile::{Tally, Verdict};
 
-// How many checks ran, and how many of them hold.
-#[derive(Clone, Copy, Default)]
+// How many checks ran, how many of them hold, and the places of the others.
+#[derive(Drop)]
 pub(crate) struct Checks {
     tally: Tally,
-    // the place of the first that does not hold
-    fault: Option<u64>,
+    faults: Vec<u64>,
+    // whether there was memory for each place
+    kept: Result<(), AllocError>,
 }
 
 impl Checks {
-    // One check more.
+    pub(crate) fn new(alloc: Global) -> Checks {
+        Checks {
+            tally: Tally::default(),
+            faults: Vec::new(alloc),
+            kept: Ok(()),
+        }
+    }
+
+    // One check more. It answers nothing, so that a run goes on: where memory runs out, print says so.
     pub(crate) fn holds(&mut self, is_right: bool) {
         self.tally += Tally::from(Verdict::from(is_right));
-        if !is_right && self.fault.is_none() {
-            self.fault = Some(self.tally.ran);
+        if !is_right {
+            if let Err(failed) = self.faults.push(self.tally.ran) {
+                self.kept = Err(AllocError::from(failed));
+            }
         }
     }
 
@@ -27,10 +39,11 @@ impl Checks {
         }));
     }
 
-    // Prints the place of the first check that does not hold, as a line's is, and the run's row, with a title in the place of a file's first line.
+    // Prints the place of each check that does not hold, as a line's is, and the run's row, with a title in the place of a file's first line.
     pub(crate) fn print(self, rt: &impl Print, run: &str, title: &str) -> io::Result<Tally> {
-        if let Some(place) = self.fault {
-            textfile::counted(rt, Ok(Verdict::Differs), run, place)?;
+        self.kept?;
+        for place in self.faults.as_slice() {
+            textfile::counted(rt, Ok(Verdict::Differs), run, *place)?;
         }
         textfile::print_row(rt, self.tally, title)?;
         Ok(self.tally)
