@@ -1,5 +1,6 @@
 // CBC with a zero IV (SP 800-38A, 6.2) over DES, in place. Blocks are read and written at an index: std says nothing of a slice's elements after
-// `chunks_exact_mut`. Each direction has its own loop: closures of one loop would need clauses of their own, and that loop one over any two functions.
+// `chunks_exact_mut`. Each direction has its own loop: closures of one loop would need clauses of their own, and that loop one over any two
+// functions.
 ghost use Rattle.std.specs.Prelude.{◌≡◌, replicate};
 ghost use Rattle.cipher.specs.Fips46.{des_encrypt, des_decrypt};
 ghost use Rattle.cipher.specs.Sp80038a.{cbc_encrypt, cbc_decrypt, whole, on_whole};

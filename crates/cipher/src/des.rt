@@ -104,12 +104,12 @@ fn mangle(r: u32, key: u64) -> u32
 {
     let u = low(key) ^ r;
     let v = high(key) ^ r.rotate_right(4);
-    let b1 = pick(0, v / 0x100_0000);
-    let b2 = pick(1, u / 0x100_0000);
-    let b3 = pick(2, v / 0x1_0000);
-    let b4 = pick(3, u / 0x1_0000);
-    let b5 = pick(4, v / 0x100);
-    let b6 = pick(5, u / 0x100);
+    let b1 = pick(0, v >> 24);
+    let b2 = pick(1, u >> 24);
+    let b3 = pick(2, v >> 16);
+    let b4 = pick(3, u >> 16);
+    let b5 = pick(4, v >> 8);
+    let b6 = pick(5, u >> 8);
     let b7 = pick(6, v);
     let b8 = pick(7, u);
     b1 ^ (b2 ^ (b3 ^ (b4 ^ (b5 ^ (b6 ^ (b7 ^ b8))))))
@@ -225,16 +225,15 @@ impl KeyHalves {
         ensures { keys_from shifts (bits 28 result.c) (bits 28 result.d) ≡ KS (to_bits key) }
     {
         let x = transpose(u64::from_le_bytes(key));
+        let [_, row7, row6, row5, row4, ..] = x.to_le_bytes();
         KeyHalves {
-            c: (x / 0x10_0000_0000) as u32,
-            d: ((x / 0x100 % 0x100) * 0x10_0000
-                + ((x / 0x1_0000 % 0x100) * 0x1000
-                    + ((x / 0x100_0000 % 0x100) * 0x10 + x / 0x1_0000_0000 % 0x10))) as u32,
+            c: (x >> 36) as u32,
+            d: u32::from_be_bytes([0, row7, row6, row5]) * 16 + u32::from(row4 % 16),
         }
     }
 
-    // The halves of round i + 1 from those of round i: one place in rounds 1, 2, 9 and 16, else two. Each number of places has an arm of its own: with
-    // a variable one a fold is a tenth slower.
+    // The halves of round i + 1 from those of round i: one place in rounds 1, 2, 9 and 16, else two. Each number of places has an arm of its own:
+    // with a variable one a fold is a tenth slower.
     fn shifted(self, i: usize) -> KeyHalves
         requires { i < 16 }
         ensures c { bits 28 result.c ≡ left_shift (get_or shifts i 0) (bits 28 self.c) }
@@ -297,9 +296,9 @@ fn half_key(m: usize, c: u32) -> u32
     requires { m < 5 }
     ensures { bits 32 result ≡ pc2_bits m (c / 2 ^ 21) ⊞ (pc2_bits (m + 1) (c / 2 ^ 14) ⊞ (pc2_bits (m + 2) (c / 2 ^ 7) ⊞ pc2_bits (m + 3) c)) }
 {
-    let p = pick7(m, c / 0x20_0000);
-    let q = pick7(m + 1, c / 0x4000);
-    let r = pick7(m + 2, c / 0x80);
+    let p = pick7(m, c >> 21);
+    let q = pick7(m + 1, c >> 14);
+    let r = pick7(m + 2, c >> 7);
     let s = pick7(m + 3, c);
     p ^ (q ^ (r ^ s))
 }
@@ -342,7 +341,7 @@ fn low(x: u64) -> u32
 fn high(x: u64) -> u32
     ensures { result ≡ x / 2 ^ 32 }
 {
-    (x / 0x1_0000_0000) as u32
+    (x >> 32) as u32
 }
 
 fn joined(x: u32, y: u32) -> u64
