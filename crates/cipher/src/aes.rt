@@ -92,39 +92,24 @@ impl Columns {
     fn sub_shift(self) -> Columns
         ensures { bytes_of result ≡ shift_rows (sub_bytes (bytes_of self)) }
     {
-        let [a, b, c, d] = self.shift_rows();
-        Columns {
-            a: sub_column(a),
-            b: sub_column(b),
-            c: sub_column(c),
-            d: sub_column(d),
-        }
+        let [a, b, c, d] = self.shift_rows().map(sub_column);
+        Columns { a, b, c, d }
     }
 
     // SubBytes, ShiftRows and MixColumns.
     fn sub_shift_mix(self) -> Columns
         ensures { bytes_of result ≡ mix_columns (shift_rows (sub_bytes (bytes_of self))) }
     {
-        let [a, b, c, d] = self.shift_rows();
-        Columns {
-            a: sub_mix_column(a),
-            b: sub_mix_column(b),
-            c: sub_mix_column(c),
-            d: sub_mix_column(d),
-        }
+        let [a, b, c, d] = self.shift_rows().map(sub_mix_column);
+        Columns { a, b, c, d }
     }
 
     // InvShiftRows and InvSubBytes.
     fn inv_shift_sub(self) -> Columns
         ensures { bytes_of result ≡ inv_sub_bytes (inv_shift_rows (bytes_of self)) }
     {
-        let [a, b, c, d] = self.inv_shift_rows();
-        Columns {
-            a: inv_sub_column(a),
-            b: inv_sub_column(b),
-            c: inv_sub_column(c),
-            d: inv_sub_column(d),
-        }
+        let [a, b, c, d] = self.inv_shift_rows().map(inv_sub_column);
+        Columns { a, b, c, d }
     }
 
     fn inv_mix_columns(self) -> Columns
