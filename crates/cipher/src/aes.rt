@@ -16,7 +16,8 @@ struct Columns {
     d: u32,
 }
 
-// The steps of a round are methods by FIPS 197's names. Some differ in what they call alone: a parameter for that would be longer than their lines.
+// The steps of a round are methods by FIPS 197's names. Three differ in what they map alone: a parameter for that would be longer than their two
+// lines.
 impl Columns {
     fn load(block: [u8; 16]) -> Columns
         ensures { bytes_of result ≡ block }

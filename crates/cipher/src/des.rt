@@ -135,6 +135,7 @@ impl KeySchedule {
     pub(crate) fn new(key: [u8; 8]) -> KeySchedule
         ensures { map key_bits result.keys ≡ KS (to_bits key) }
     {
+        // The keys are not taken from RoundKeys: std says nothing of what a loop over `iter_mut().zip(..)` wrote.
         let mut halves = KeyHalves::of_key(key);
         let mut keys = [0u64; 16];
         for (i, round_key) in keys.iter_mut().enumerate() {

@@ -1,5 +1,5 @@
 // Secure messaging over DES: Authentication 2, opening, the MAC, sealing (des.rs, in its order; registration packages are in package.rt).
-
+// Nothing allocates: a text that is worked on stands in an array of the most that it can have.
 ghost use Rattle.std.specs.Prelude.{◌≡◌, true, ◌+◌, ◌-◌, ◌%◌, ◌≤◌, length, take};
 ghost use Rattle.answer.specs.Delivery.{Delivers};
 ghost use Rattle.answer.specs.Outcome.{Meets, over};
@@ -92,7 +92,8 @@ pub(crate) struct SecureResponse<'a> {
     pub(crate) payload: &'a [u8],
 }
 
-// A plain text comes as the part of the work block that it fills, so its least length is asked of each function that reads from it.
+// A plain text comes as the part of the work block that it fills, so its least length is asked of each function that reads from it. A type for a text
+// of 16 bytes or more would be made in accept_des and taken apart at the next call: more lines than these clauses.
 impl SecureResponseHeader {
     // The header that a plain text starts with.
     fn parse(plain: &[u8]) -> Self
@@ -255,7 +256,8 @@ fn strip_des_response_mac(payload_with_mac: &[u8]) -> &[u8]
 fn mac_start(total: usize, code: u8) -> [u8; 8]
     ensures { result ≡ mac_start total code }
 {
-    [(total % 256) as u8, code, 0, 0, 0, 0, 0, 0]
+    let [lowest, ..] = total.to_le_bytes();
+    [lowest, code, 0, 0, 0, 0, 0, 0]
 }
 
 // The MAC of a plain text of whole blocks.

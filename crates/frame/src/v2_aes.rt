@@ -1,4 +1,6 @@
-// Sealed AES data: number, cipher payload, cipher MAC (v2_aes.rs).
+// Sealed AES data: number, cipher payload, cipher MAC (v2_aes.rs). Code, number and ID go side by side, as in the Rust: a struct for them would be
+// made of the parameters of a call and taken apart at the next. Nothing allocates: a text that is worked on stands in an array of the most that
+// it can have.
 ghost use Rattle.std.specs.Prelude.{◌≡◌, ◌+◌, ◌≤◌, ◌++◌, length};
 ghost use Rattle.answer.specs.Delivery.{Delivers};
 ghost use Rattle.answer.specs.Number.{number_bytes};

@@ -4,4 +4,4 @@ use Rattle.frame.proofs.des.mac_start.Goals as goal
 
 pub returns : goal.returns
 unfolding mac_start
-returns c = refl
+returns c = rw c.to_le_bytes.ensures refl
