@@ -157,12 +157,9 @@ impl AuthenticatedContext {
     fn next_number(&self) -> Result<u16, Refusal>
         ensures { MatchResult result (λ next. (self.now.transaction_number ≢ 0xFFFF) × (next ≡ self.now.transaction_number + 1)) (λ e. (self.now.transaction_number ≡ 0xFFFF) × (e ≡ Refusal.NumberExhausted)) }
     {
-        let number = self.transaction_number;
-        let full = number == u16::MAX;
-        if full {
-            return Err(Refusal::NumberExhausted);
-        }
-        Ok(number + 1)
+        self.transaction_number
+            .checked_add(1)
+            .ok_or(Refusal::NumberExhausted)
     }
 
     // The number step by value.
