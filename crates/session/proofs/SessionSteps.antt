@@ -6,7 +6,7 @@ use mathlib.Core.Logic.{◌⊎◌, inl, inr, ⊎_elim}
 use Prim.Native.Nat.{ℕ, zero, suc, ◌+◌, ◌-◌, ◌%◌, ◌≤◌, ◌<◌, min}
 use native.Mathlib.Nat.{sub-zero, min-eq_left, min-eq_right}
 use native.Mathlib.Omega.{arith}
-use borrow.Author.Tests.{eq-eqb, ne_eqb, lt-ltb, le-ltb}
+use borrow.Author.Tests.{eq-eqb, ne_eqb, lt-ltb, le-ltb, eqb-true, eqb-false}
 use lib.Dec.{eqb, lit≤}
 use lib.ListN.{length, take, drop, replicate, length-replicate}
 use lib.Seq.{take_all}
@@ -55,12 +55,26 @@ module _ (s : AuthenticatedContext) where
         session = c ∙ sym (ap (λ (x : Step). x.session) q);
       }
 
-  pub steps_refused : {r : Answer} → s.transaction_number ≡ 0xFFFF → r ≡ Err NumberExhausted → Steps s r s
-  steps_refused e q = rw q (steps_as _ (Err NumberExhausted) s (stepped_full e) (refl, refl, refl) refl)
+  pub steps_refused : (e : Refusal) → StepsTo s (Err e) → {r : Answer} → r ≡ Err e → Steps s r s
+  steps_refused e h q = rw q (go (eqb s.transaction_number 0xFFFF) refl)
+    where
+      go : (b : Bool) → eqb s.transaction_number 0xFFFF ≡ b → Steps s (Err e) s
+      go true q = let f = stepped_full (eqb-true _ _ q) in steps_as _ (Err e) s f (sym h.0 ∙ ap (λ (x : Step). x.number) f, refl, refl) refl
+      go false q =
+          let z : 0 ≡ refusal_number e = sym (ap (λ (x : Step). x.number) (stepped_on (eqb-false _ _ q))) ∙ h.0 in
+          absurd (refusal_some e (sym z))
 
-  pub steps_taken : (a : Accepted) (t : AuthenticatedContext) → s.transaction_number ≢ 0xFFFF → t ≡ with_number (s.transaction_number + 1) s
-      → (a.length ≡ 0) × (a.transaction_number ≡ s.transaction_number + 1) → Steps s (Ok a) t
-  steps_taken a t h e k = steps_as _ (Ok a) t (stepped_on h) (refl, k.0, k.1) e
+  pub steps_taken : (a : Accepted) (t u : AuthenticatedContext) → StepsTo s (Ok t) → u ≡ with_number t.transaction_number s
+      → (a.length ≡ 0) × (a.transaction_number ≡ t.transaction_number) → Steps s (Ok a) u
+  unfolding with_number
+  steps_taken a t u h e k = go (eqb s.transaction_number 0xFFFF) refl
+    where
+      go : (b : Bool) → eqb s.transaction_number 0xFFFF ≡ b → Steps s (Ok a) u
+      go true q = let z : 9 ≡ 0 = sym (ap (λ (x : Step). x.number) (stepped_full (eqb-true _ _ q))) ∙ h.0 in absurd (omega (arith, z))
+      go false q =
+          let f = stepped_on (eqb-false _ _ q) in
+          let n = ap (λ (x : AuthenticatedContext). x.transaction_number) (h.1 ∙ ap (λ (x : Step). x.session) f) in
+          steps_as _ (Ok a) u f (refl, k.0, k.1 ∙ n) (e ∙ ap (λ (m : ℕ). with_number m s) n)
 
 -- ---- the count
 

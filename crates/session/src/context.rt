@@ -1,5 +1,5 @@
 // The session after authentication (AuthenticatedContext of mod.rs).
-ghost use Rattle.std.specs.Prelude.{◌≡◌, ◌≢◌, ◌+◌, ◌*◌, ◌<◌, ◌≤◌, length, take, MatchOption, MatchResult};
+ghost use Rattle.std.specs.Prelude.{◌≡◌, ◌*◌, ◌<◌, ◌≤◌, length, take, MatchOption};
 ghost use Rattle.answer.specs.Outcome.{Meets};
 ghost use Rattle.answer.specs.Refusal.{refusal_number};
 ghost use Rattle.session.specs.Session.{Makes, with_number, StepsTo, Steps, counting, listed_count, first_place, index, Receives, receiving, credentials_size, credentials_of};
@@ -153,20 +153,14 @@ impl AuthenticatedContext {
         self.transaction_number = value;
     }
 
-    // The number after the session's.
-    fn next_number(&self) -> Result<u16, Refusal>
-        ensures { MatchResult result (λ next. (self.now.transaction_number ≢ 0xFFFF) × (next ≡ self.now.transaction_number + 1)) (λ e. (self.now.transaction_number ≡ 0xFFFF) × (e ≡ Refusal.NumberExhausted)) }
-    {
-        self.transaction_number
-            .checked_add(1)
-            .ok_or(Refusal::NumberExhausted)
-    }
-
     // The number step by value.
     pub fn step(self) -> Result<AuthenticatedContext, Refusal>
         ensures { StepsTo self result }
     {
-        let next = self.next_number()?;
+        let next = self
+            .transaction_number
+            .checked_add(1)
+            .ok_or(Refusal::NumberExhausted)?;
         Ok(self.with_transaction_number(next))
     }
 
@@ -174,9 +168,10 @@ impl AuthenticatedContext {
     pub fn increment_transaction_number(&mut self) -> Answer
         ensures { Steps self.old result self.new }
     {
-        let next = self.next_number()?;
-        self.set_transaction_number(next);
-        Ok(Accepted::numbered(next))
+        let stepped = self.step()?;
+        // of what stepped, the number alone is written back: so no session is copied
+        self.set_transaction_number(stepped.transaction_number);
+        Ok(Accepted::numbered(stepped.transaction_number))
     }
 
     // Opens a response, and takes its number. A refusal changes nothing but the count.
