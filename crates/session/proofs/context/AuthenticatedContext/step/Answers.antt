@@ -1,8 +1,9 @@
-use mathlib.Core.Path.{◌≡◌}
-use Prim.Native.Nat.{◌+◌}
+use mathlib.Core.Path.{◌≡◌, ap, ◌∙◌}
+use Prim.Native.Nat.{ℕ, ◌+◌}
 use borrow.Author.Rules.{rules}
 use Rattle.std.specs.Prelude.{Err}
 use Rattle.answer.specs.declared.refusal.Refusal.TheVariants.{NumberExhausted}
+use Rattle.session.specs.Session.{with_number}
 use Rattle.session.proofs.SessionSteps.{step_refused, step_taken}
 use Rattle.session.proofs.context.AuthenticatedContext.step.Goals as goal
 
@@ -14,5 +15,6 @@ returns-in_err-next c =
 
 pub returns : goal.returns
 returns c =
-    let next : c.in_ok-next.next ≡ c.args.self.transaction_number + 1 = search rules in
-    rw (c.with_transaction_number.ensures, next) (step_taken c.args.self (λ e. search rules))
+    let s = c.args.self in
+    let next : c.in_ok-next.next ≡ s.transaction_number + 1 = search rules in
+    rw (c.with_transaction_number.ensures ∙ ap (λ (n : ℕ). with_number n s) next) (step_taken s (λ e. search rules))
