@@ -11,7 +11,7 @@ ghost use Rattle.agreement.specs.inner.Said.{holding, exchange1, random2_read, e
 
 use answer::{Accepted, Answer, Scheme};
 
-// Two pieces, one behind the other, over the front of out; answers how many bytes they are.
+// Two pieces, one behind the other, over the front of out; answers how many bytes they are. std has no function that puts two arrays into one.
 fn join(a: &[u8], b: &[u8], out: &mut [u8]) -> usize
     requires { length a.now + length b.now ≤ length out.old }
     ensures { (result ≡ length (a.now ++ b.now)) × (out.new ≡ over (a.now ++ b.now) out.old) }

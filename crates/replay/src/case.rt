@@ -14,7 +14,9 @@ pub(crate) fn run(alloc: Global, operation: &str, line: &str) -> Result<Verdict,
     }
 }
 
-// Whether all calls of a case agree. Its first field names its file's operation, and with that name a case has so many fields.
+// Whether all calls of a case agree. Its first field names its file's operation, and with that name a case has so many fields. One match says name,
+// number and call of each: passed to the loop over a file's lines instead, they would stand at sixteen calls of that loop, which is no shorter, and
+// the check takes a fifth longer.
 fn agrees(alloc: Global, operation: &str, case: &str) -> Result<bool, FieldError> {
     let fields = Fields::new(alloc, case)?;
     if fields.get(0)? != operation {

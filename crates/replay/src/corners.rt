@@ -99,7 +99,7 @@ fn leaves(refusal: Option<Refusal>, number: u16, count: u16) -> Outcome {
 
 // The response step, in one scheme, where a sealed response has N bytes: the number that the session is given before it, if any; the response, how
 // many bytes the output has, and what is to come of it. Another ID is told by the ID in DES and by the MAC in AES, and comes before a number that is
-// not above; that comes before an output that is too small, which is not counted.
+// not above; that comes before an output that is too small, which is not counted. An array of N bytes has to have a bound.
 pub(crate) fn responses<const N: usize>(checks: &mut Checks, scheme: Scheme)
     requires { N ≤ 64 }
 {
@@ -128,11 +128,12 @@ pub(crate) fn responses<const N: usize>(checks: &mut Checks, scheme: Scheme)
         if let Some(before) = before {
             context.set_transaction_number(before);
         }
-        let received = match sealed::<N>(scheme, response) {
-            Some(sealed) => receive(&mut context, &sealed, room, outcome),
-            None => false,
-        };
-        checks.holds(received);
+        checks.holds(sealed::<N>(scheme, response).is_some_and(|sealed| receive(
+            &mut context,
+            &sealed,
+            room,
+            outcome,
+        )));
     }
 }
 

@@ -1,9 +1,9 @@
 // A reader and a card with the same keys, through every call: each is accepted, and both get the same. Each output has the size of what is written.
+// A method that makes an array of N bytes asks that N is at most 64, since an array has to have a bound.
 ghost use Rattle.std.specs.Prelude.{◌≤◌};
 
 use crate::note::Checks;
 use answer::{Accepted, Answer, Scheme};
-use session::DerivedAuthKeys;
 
 // What both ends know.
 static IDM: [u8; 8] = *b"\x01\x02\x03\x04\x05\x06\x07\x08";
@@ -15,8 +15,8 @@ static ID: [u8; 6] = *b"\x11\x12\x13\x14\x15\x16";
 pub(crate) fn with_des(checks: &mut Checks, mark: u8) {
     let keys =
         b"\xFF\xFF\x01system key 12345\x00\x00\x01area key 1234567\x08\x10\x01service key 1234";
-    let reader: [u8; 16] = derived(checks, mark, Scheme::Des, keys);
-    let card = derived(checks, mark, Scheme::Des, keys);
+    let reader: [u8; 16] = derived(checks, mark, Scheme::Des, keys, 0);
+    let card = derived(checks, mark, Scheme::Des, keys, 1);
     checks.holds(reader == card);
     let ends = Ends {
         mark: Scheme::Des.mark(),
@@ -36,8 +36,8 @@ pub(crate) fn with_des(checks: &mut Checks, mark: u8) {
 
 pub(crate) fn with_aes(checks: &mut Checks, mark: u8) {
     let keys = b"\x00\x00\x02area key 1234567\x08\x10\x02service key 1234";
-    let reader: [u8; 32] = derived(checks, mark, Scheme::Aes128, keys);
-    let card = derived(checks, mark, Scheme::Aes128, keys);
+    let reader: [u8; 32] = derived(checks, mark, Scheme::Aes128, keys, 0);
+    let card = derived(checks, mark, Scheme::Aes128, keys, 1);
     checks.holds(reader == card);
     let ends = Ends {
         mark: Scheme::Aes128.mark(),
@@ -59,9 +59,15 @@ pub(crate) fn with_aes(checks: &mut Checks, mark: u8) {
     ends.reply::<28>(checks);
 }
 
-// The keys that one end derives: one check.
-fn derived<const N: usize>(checks: &mut Checks, mark: u8, scheme: Scheme, keys: &[u8]) -> [u8; N] {
-    let mut out = [0; N];
+// The keys that one end derives: one check. The ends start with other bytes, so that an output that is not written is seen.
+fn derived<const N: usize>(
+    checks: &mut Checks,
+    mark: u8,
+    scheme: Scheme,
+    keys: &[u8],
+    start: u8,
+) -> [u8; N] {
+    let mut out = [start; N];
     let derived = session::derive_auth_keys(mark, keys, b"\0\0", b"\x08\x10", &[], &mut out);
     checks.holds(derived.is_ok_and(|keys| usize::from(keys.length) == N && keys.scheme == scheme));
     out

@@ -127,6 +127,7 @@ pub(crate) fn under_key<F: Fn(&[u8], &[u8], &mut [u8]) -> Answer>(
     Ok(wanted.is_given(|out| answered(call(&key, &text, out))))
 }
 
+// Closures pass the arguments on: Rattle refuses the name of a function of another crate in their place.
 pub(crate) fn auth2_seal(fields: &Fields) -> Result<bool, FieldError> {
     under_key(
         fields,
