@@ -2,7 +2,7 @@
 // it leaves.
 ghost use Rattle.std.specs.Prelude.{◌≡◌, true, false, [], length, MatchResult};
 ghost use Rattle.felica_secure.specs.Calls.{Call, Tells, Keeps, MakesKept};
-ghost use Rattle.felica_secure.specs.inner.SessionClosures.{Telling, Keeping};
+ghost use Rattle.felica_secure.specs.inner.SessionClosures.{packed_answer, Telling, Keeping};
 ghost use Rattle.felica_secure.specs.SessionCalls.{kept_session, call_step, call_set, call_seal, call_receive, call_index, call_number, call_count, call_scheme, call_id, call_nodes};
 ghost use Rattle.session.specs.Record.{encode, decode, is_session};
 ghost use Rattle.session.specs.Session.{make_rows, established};
@@ -41,14 +41,11 @@ fn tell<F: FnOnce(AuthenticatedContext, &mut [u8]) -> Answer>(
     session: &[u8],
     out: &mut [u8],
     call: F,
-) -> u64
+) -> Answer
     requires { F.IsAlwaysCallable call }
-    ensures { (called : AuthenticatedContext → Call AuthenticatedContext) → Telling (F.post call) (decode session.now) out.old called → Tells kept_session called session.now result out.old out.new }
+    ensures { (called : AuthenticatedContext → Call AuthenticatedContext) → Telling (F.post call) (decode session.now) out.old called → Tells kept_session called session.now (packed_answer result) out.old out.new }
 {
-    match load(session) {
-        Ok(context) => pack::pack(call(context, out)),
-        Err(refusal) => pack::pack(Err(refusal)),
-    }
+    call(load(session)?, out)
 }
 
 // The same of a call that changes the session. What it leaves is written over the bytes.
@@ -56,18 +53,33 @@ fn keep<F: FnOnce(&mut AuthenticatedContext, &mut [u8]) -> Answer>(
     session: &mut [u8],
     out: &mut [u8],
     call: F,
-) -> u64
+) -> Answer
     requires { F.IsAlwaysCallable call }
-    ensures { (called : AuthenticatedContext → Call AuthenticatedContext) → Keeping (F.post call) (decode session.old) out.old called → Keeps kept_session called session.old session.new result out.old out.new }
+    ensures { (called : AuthenticatedContext → Call AuthenticatedContext) → Keeping (F.post call) (decode session.old) out.old called → Keeps kept_session called session.old session.new (packed_answer result) out.old out.new }
 {
-    match load(session) {
-        Ok(mut context) => {
-            let answer = call(&mut context, out);
-            store(&context, session);
-            pack::pack(answer)
-        }
-        Err(refusal) => pack::pack(Err(refusal)),
+    let mut context = load(session)?;
+    let answer = call(&mut context, out);
+    store(&context, session);
+    answer
+}
+
+// Makes a session over these bytes, which have to be 178.
+fn make(
+    scheme: u8,
+    number: u16,
+    id: &[u8],
+    credentials: &[u8],
+    nodes: &[u8],
+    session: &mut [u8],
+) -> Answer
+    ensures { MakesKept kept_session (make_rows scheme (length id.now) (length credentials.now) (length nodes.now)) (established scheme number id.now credentials.now nodes.now) (packed_answer result) session.old session.new }
+{
+    if session.len() != 178 {
+        return Err(Refusal::BadMarkOrLength);
     }
+    let context = AuthenticatedContext::new(scheme, number, id, credentials, nodes)?;
+    store(&context, session);
+    Ok(Accepted::sized(178))
 }
 
 // Makes a session.
@@ -82,16 +94,7 @@ pub extern "C" fn felica_session_new(
 ) -> u64
     ensures { MakesKept kept_session (make_rows scheme (length id.now) (length credentials.now) (length nodes.now)) (established scheme number id.now credentials.now nodes.now) result session.old session.new }
 {
-    if session.len() != 178 {
-        return pack::pack(Err(Refusal::BadMarkOrLength));
-    }
-    match AuthenticatedContext::new(scheme, number, id, credentials, nodes) {
-        Ok(context) => {
-            store(&context, session);
-            pack::pack(Ok(Accepted::sized(178)))
-        }
-        Err(refusal) => pack::pack(Err(refusal)),
-    }
+    pack::pack(make(scheme, number, id, credentials, nodes, session))
 }
 
 // Steps the number.
@@ -99,11 +102,11 @@ pub extern "C" fn felica_session_new(
 pub extern "C" fn felica_session_increment_transaction_number(session: &mut [u8]) -> u64
     ensures { Keeps kept_session call_step session.old session.new result [] [] }
 {
-    keep(
+    pack::pack(keep(
         session,
         &mut [],
         |context, _| context.increment_transaction_number(),
-    )
+    ))
 }
 
 // Sets the number.
@@ -111,10 +114,10 @@ pub extern "C" fn felica_session_increment_transaction_number(session: &mut [u8]
 pub extern "C" fn felica_session_set_transaction_number(session: &mut [u8], number: u16) -> u64
     ensures { Keeps kept_session (call_set number) session.old session.new result [] [] }
 {
-    keep(session, &mut [], |context, _| {
+    pack::pack(keep(session, &mut [], |context, _| {
         context.set_transaction_number(number);
         Ok(Accepted::sized(0))
-    })
+    }))
 }
 
 // Seals a command with the session's number.
@@ -127,11 +130,11 @@ pub extern "C" fn felica_session_encrypt_command(
 ) -> u64
     ensures { Tells kept_session (call_seal code payload.now (length out.old)) session.now result out.old out.new }
 {
-    tell(
+    pack::pack(tell(
         session,
         out,
         |context, out| context.encrypt_command(code, payload, out),
-    )
+    ))
 }
 
 // Opens a response, and takes its number.
@@ -144,11 +147,11 @@ pub extern "C" fn felica_session_apply_response(
 ) -> u64
     ensures { Keeps kept_session (call_receive code «data».now (length out.old)) session.old session.new result out.old out.new }
 {
-    keep(
+    pack::pack(keep(
         session,
         out,
         |context, out| context.apply_response(code, data, out),
-    )
+    ))
 }
 
 // The first place of a node.
@@ -191,11 +194,11 @@ pub extern "C" fn felica_session_scheme(session: &[u8]) -> u64
 pub extern "C" fn felica_session_transaction_id(session: &[u8], out: &mut [u8]) -> u64
     ensures { Tells kept_session (call_id (length out.old)) session.now result out.old out.new }
 {
-    tell(
+    pack::pack(tell(
         session,
         out,
         |context, out| answer::deliver(0, &context.transaction_id(), out),
-    )
+    ))
 }
 
 // The session's nodes, as bytes.
@@ -203,9 +206,9 @@ pub extern "C" fn felica_session_transaction_id(session: &[u8], out: &mut [u8]) 
 pub extern "C" fn felica_session_nodes(session: &[u8], out: &mut [u8]) -> u64
     ensures { Tells kept_session (call_nodes (length out.old)) session.now result out.old out.new }
 {
-    tell(
+    pack::pack(tell(
         session,
         out,
         |context, out| answer::deliver(0, context.listed_nodes(), out),
-    )
+    ))
 }

@@ -6,4 +6,4 @@ use Rattle.felica_secure.proofs.sessions.felica_session_apply_response.Goals as 
 
 pub returns : goal.returns
 unfolding call_receive answering
-returns c = c.keep.ensures (call_receive c.args.code c.args.«data».now (length c.args.out.now)) (λ s t x y r i e k. (search rules, search rules, search rules))
+returns c = rw c.pack.ensures (c.keep.ensures (call_receive c.args.code c.args.«data».now (length c.args.out.now)) (λ s t x y r i e k. (search rules, search rules, search rules)))

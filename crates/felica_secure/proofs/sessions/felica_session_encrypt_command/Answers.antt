@@ -6,4 +6,4 @@ use Rattle.felica_secure.proofs.sessions.felica_session_encrypt_command.Goals as
 
 pub returns : goal.returns
 unfolding call_seal answering
-returns c = c.tell.ensures (call_seal c.args.code c.args.payload.now (length c.args.out.now)) (λ x y r e k. (search rules, search rules))
+returns c = rw c.pack.ensures (c.tell.ensures (call_seal c.args.code c.args.payload.now (length c.args.out.now)) (λ x y r e k. (search rules, search rules)))

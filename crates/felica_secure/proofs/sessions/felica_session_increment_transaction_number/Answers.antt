@@ -6,4 +6,4 @@ use Rattle.felica_secure.proofs.sessions.felica_session_increment_transaction_nu
 
 pub returns : goal.returns
 unfolding call_step over
-returns c = rw (nil_from_length _ c.keep.auto.out) at (c.keep.ensures call_step (λ s t x y r i e k. (search rules, search rules, search rules)))
+returns c = rw c.pack.ensures (rw (nil_from_length _ c.keep.auto.out) at (c.keep.ensures call_step (λ s t x y r i e k. (search rules, search rules, search rules))))

@@ -15,8 +15,8 @@ use Rattle.felica_secure.proofs.sessions.felica_session_nodes.Goals as goal
 
 pub returns : goal.returns
 unfolding call_nodes answering
-returns c = c.tell.ensures (call_nodes (length c.args.out.now)) (λ x y r e k.
+returns c = rw c.pack.ensures (c.tell.ensures (call_nodes (length c.args.out.now)) (λ x y r e k.
     let s = decode c.args.session.now in
     let d : Delivers (delivering 0 (take (listed_count s.node_count * 2) s.nodes) (length c.args.out.now)) r c.args.out.now y.now = search rules in
     let m = delivers_meets _ _ _ d (no_longer _ 65535 _ _ refl (omega (arith, decoded_nodes c.args.session.now))) in
-    (rw (m.number, m.length_is, m.transaction), m.output))
+    (rw (m.number, m.length_is, m.transaction), m.output)))

@@ -7,4 +7,4 @@ use Rattle.felica_secure.proofs.sessions.felica_session_set_transaction_number.G
 
 pub returns : goal.returns
 unfolding call_set telling over
-returns c = rw (nil_from_length _ c.keep.auto.out) at (c.keep.ensures (call_set c.args.number) (λ s t x y r i e k. (search rules, search rules, search rules)))
+returns c = rw c.pack.ensures (rw (nil_from_length _ c.keep.auto.out) at (c.keep.ensures (call_set c.args.number) (λ s t x y r i e k. (search rules, search rules, search rules))))

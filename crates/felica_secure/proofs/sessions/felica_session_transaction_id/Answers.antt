@@ -11,7 +11,7 @@ use Rattle.felica_secure.proofs.sessions.felica_session_transaction_id.Goals as 
 
 pub returns : goal.returns
 unfolding call_id answering
-returns c = c.tell.ensures (call_id (length c.args.out.now)) (λ x y r e k.
+returns c = rw c.pack.ensures (c.tell.ensures (call_id (length c.args.out.now)) (λ x y r e k.
     let d : Delivers (delivering 0 (decode c.args.session.now).transaction_id (length c.args.out.now)) r c.args.out.now y.now = search rules in
     let m = delivers_meets _ _ _ d (omega (arith, decoded_id c.args.session.now)) in
-    (rw (m.number, m.length_is, m.transaction), m.output))
+    (rw (m.number, m.length_is, m.transaction), m.output)))
