@@ -63,7 +63,8 @@ fn keep<F: FnOnce(&mut AuthenticatedContext, &mut [u8]) -> Answer>(
     answer
 }
 
-// Makes a session over these bytes, which have to be 178.
+// Makes a session over these bytes, which have to be 178. It takes all that C's function takes: one that only writes what C's function made is
+// slower, 249 instructions a call in the place of 237.
 fn make(
     scheme: u8,
     number: u16,
