@@ -1,19 +1,19 @@
 -- When an answer is that of a derivation's definition, step by step. Assumes nothing.
 use mathlib.Core.Path.{◌≡◌, refl, sym, ap, ap₂, ◌∙◌}
 use mathlib.Core.Bool.{Bool, true, false}
-use mathlib.Core.List.{List, [], ◌∷◌, ◌++◌}
+use mathlib.Core.List.{List, [], ◌∷◌, ◌++◌, map}
 use mathlib.Core.HLevel.{⊥_prop}
 use mathlib.Core.Logic.{∥∥₁_elim}
-use Prim.Native.Nat.{ℕ, ◌*◌, ◌/◌, ◌%◌, ◌≤◌, ◌<◌}
+use Prim.Native.Nat.{ℕ, ◌/◌, ◌%◌, ◌≤◌, ◌<◌}
 use native.Mathlib.Omega.{arith}
 use borrow.Author.Tests.{eq-eqb, ne_eqb, lt-ltb, le-ltb}
 use lib.Dec.{eqb, ltb}
-use lib.Seq.{length-take-le}
-use lib.ListN.{length, take, replicate}
+use lib.ListN.{length, replicate}
 use Rattle.cipher.specs.Fips197.{aes_encrypt}
 use Rattle.cipher.specs.Fips46.{des_encrypt}
 use Rattle.cipher.specs.Fold.{under_each}
 use Rattle.std.proofs.Common.{Option, Some, None, MatchOption, Result, Ok, Err, ◌≢◌}
+use Rattle.std.proofs.lemmas.List.{length-map}
 use Rattle.std.proofs.lemmas.Result.{err_from_is_err_and}
 use Rattle.std.specs.Result.{IsErrAnd}
 use Rattle.std.specs.Option.{IfSome, is_some}
@@ -27,14 +27,13 @@ use Rattle.answer.specs.declared.refusal.Refusal.TheVariants.{OutputTooSmall, Ba
 use Rattle.answer.specs.declared.scheme.Scheme.{Scheme}
 use Rattle.answer.specs.declared.scheme.Scheme.TheVariants.{Des, Aes128}
 use Rattle.answer.proofs.Rows.{refusal_some, either_false, isnt_false, numbered, first_passes}
-use Rattle.session.specs.Entries.{Entry, entries, nodes, has, unknown_algorithm, twice}
+use Rattle.session.specs.Entries.{Entry, entry_of, entries, nodes, has, unknown_algorithm, twice}
 use Rattle.session.specs.declared.keys.DerivedAuthKeys.{DerivedAuthKeys}
-use Rattle.session.specs.Derivation.{Derived, Derives, turned_down, derived, by_rows, lacks, needing, key_of, keys_of, group_des, user_des, des_rows, derived_des, key_length, chain_start, group_aes, individual_key, derived_aes, target, derived_by, chosen, derived_for, lengths_wrong, derive_rows, derived_before16, with_room, derivation}
+use Rattle.session.specs.Derivation.{Derived, Derives, turned_down, derived, by_rows, lacks, needing, key_of, keys_of, group_des, user_des, des_rows, derived_des, chain_start, group_aes, individual_key, derived_aes, target, derived_by, chosen, derived_for, lengths_wrong, derive_rows, derived_before16, with_room, derivation}
 use Rattle.session.specs.inner.DerivationSteps.{refusing, forced_mark, bytes_of, Guards}
 use Rattle.session.specs.ServiceCode.{bearing}
-use Rattle.session.proofs.Gathering.{needing_append, keys_long, missing_none}
+use Rattle.session.proofs.Gathering.{needing_append}
 use Rattle.session.proofs.NodeLists.{length_nodes}
-use Rattle.session.proofs.KeySearch.{length_entries}
 
 -- ---- refusals and deliveries
 
@@ -69,21 +68,21 @@ module _ (rows : List Row) (d : Derived) where
 
 -- ---- 17, 1, 2
 
-module _ (keys areas services : List ℕ) (k : length keys % 19 ≡ 0) (a : length areas % 2 ≡ 0) (s : length services % 2 ≡ 0) where
+module _ (keys areas services : List ℕ) (ls : List (List ℕ)) (e : map entry_of ls ≡ entries keys) (k : length keys % 19 ≡ 0) (a : length areas % 2 ≡ 0) (s : length services % 2 ≡ 0) where
   -- lists of whole entries and nodes: 17 is for an unknown algorithm
   pub lists_whole : first_of (derive_rows 0 keys areas services [])
-      ≡ choose (unknown_algorithm (entries keys)) 17 (choose (either (ltb 128 (length keys / 19)) (either (ltb 32 (length areas / 2)) (ltb 32 (length services / 2)))) 1 (choose (twice (entries keys)) 2 0))
+      ≡ choose (unknown_algorithm (map entry_of ls)) 17 (choose (either (ltb 128 (length ls)) (either (ltb 32 (length areas / 2)) (ltb 32 (length services / 2)))) 1 (choose (twice (map entry_of ls)) 2 0))
   unfolding derive_rows lengths_wrong first_of either isnt
-  lists_whole = rw (eq-eqb _ _ k, eq-eqb _ _ a, eq-eqb _ _ s, length_entries, length_nodes areas, length_nodes services)
+  lists_whole = rw (eq-eqb _ _ k, eq-eqb _ _ a, eq-eqb _ _ s, ← e, length-map ls entry_of, length_nodes areas, length_nodes services)
 
   -- no algorithm is unknown
-  module _ (known : unknown_algorithm (entries keys) ≡ false) where
-    pub lists_known : first_of (derive_rows 0 keys areas services []) ≡ choose (either (ltb 128 (length keys / 19)) (either (ltb 32 (length areas / 2)) (ltb 32 (length services / 2)))) 1 (choose (twice (entries keys)) 2 0)
+  module _ (known : unknown_algorithm (map entry_of ls) ≡ false) where
+    pub lists_known : first_of (derive_rows 0 keys areas services []) ≡ choose (either (ltb 128 (length ls)) (either (ltb 32 (length areas / 2)) (ltb 32 (length services / 2)))) 1 (choose (twice (map entry_of ls)) 2 0)
     unfolding choose
     lists_known = lists_whole ∙ rw known
 
     -- there are not too many
-    pub lists_few : length keys / 19 ≤ 128 → length areas / 2 ≤ 32 → length services / 2 ≤ 32 → first_of (derive_rows 0 keys areas services []) ≡ choose (twice (entries keys)) 2 0
+    pub lists_few : length ls ≤ 128 → length areas / 2 ≤ 32 → length services / 2 ≤ 32 → first_of (derive_rows 0 keys areas services []) ≡ choose (twice (map entry_of ls)) 2 0
     unfolding choose either
     lists_few m n o = lists_known ∙ rw (le-ltb _ _ m, le-ltb _ _ n, le-ltb _ _ o)
 
@@ -146,25 +145,25 @@ module _ (mark : ℕ) (keys areas services individual : List ℕ) where
     rows_derives out r e q h = question_derives _ room out r e q (rows_refuse _ _ e h)
 
     -- none did, and these were given
-    module _ (passed : first_of (derive_rows mark keys areas services individual) ≡ 0) (o : Option Scheme) (ks ar sv : List ℕ) (k : Option (List ℕ))
-        (given : (forced_mark o ≡ mark) × (ks ≡ keys) × (ar ≡ areas) × (sv ≡ services) × (bytes_of k ≡ individual)) where
-      goes : derivation mark keys areas services individual room ≡ with_room room (derived_for (forced_mark o) (entries ks) (nodes ar) (nodes sv) (bytes_of k))
+    module _ (passed : first_of (derive_rows mark keys areas services individual) ≡ 0) (o : Option Scheme) (es : List Entry) (ar sv : List ℕ) (k : Option (List ℕ))
+        (given : (forced_mark o ≡ mark) × (es ≡ entries keys) × (ar ≡ areas) × (sv ≡ services) × (bytes_of k ≡ individual)) where
+      goes : derivation mark keys areas services individual room ≡ with_room room (derived_for (forced_mark o) es (nodes ar) (nodes sv) (bytes_of k))
       unfolding derivation derived_before16
       goes = ap (with_room room) (rows_pass _ _ passed) ∙ rw (given.0, given.1, given.2, given.3, given.4)
 
       -- the choice of a scheme refused
       pub choice_derives : (out : List ℕ) (r : Result DerivedAuthKeys Refusal) (e : Refusal) → IsErrAnd r (λ x. x ≡ e)
-          → ((i : List ℕ) → derived_for (forced_mark o) (entries ks) (nodes ar) (nodes sv) i ≡ refusing e) → Derives (derivation mark keys areas services individual room) r out out
+          → ((i : List ℕ) → derived_for (forced_mark o) es (nodes ar) (nodes sv) i ≡ refusing e) → Derives (derivation mark keys areas services individual room) r out out
       choice_derives out r e q h = rw goes (question_derives _ room out r e q (h _))
 
       -- s was chosen
-      module _ (s : Scheme) (h : (i : List ℕ) → derived_for (forced_mark o) (entries ks) (nodes ar) (nodes sv) i ≡ derived_by (mark_of s) (entries ks) (nodes ar) (nodes sv) i)
+      module _ (s : Scheme) (h : (i : List ℕ) → derived_for (forced_mark o) es (nodes ar) (nodes sv) i ≡ derived_by (mark_of s) es (nodes ar) (nodes sv) i)
           (r : Result DerivedAuthKeys Refusal) (before after : List ℕ) where
-        pub des_derives : s ≡ Des → Derives (with_room room (derived_des (entries ks) (nodes ar) (nodes sv) (bytes_of k))) r before after → Derives (derivation mark keys areas services individual room) r before after
+        pub des_derives : s ≡ Des → Derives (with_room room (derived_des es (nodes ar) (nodes sv) (bytes_of k))) r before after → Derives (derivation mark keys areas services individual room) r before after
         unfolding derived_by choose
         des_derives e d = rw (goes, h (bytes_of k), e) d
 
-        pub aes_derives : s ≡ Aes128 → Derives (with_room room (derived_aes (entries ks) (nodes ar) (nodes sv) (bytes_of k))) r before after → Derives (derivation mark keys areas services individual room) r before after
+        pub aes_derives : s ≡ Aes128 → Derives (with_room room (derived_aes es (nodes ar) (nodes sv) (bytes_of k))) r before after → Derives (derivation mark keys areas services individual room) r before after
         unfolding derived_by choose
         aes_derives e d = rw (goes, h (bytes_of k), e) d
 
@@ -289,11 +288,6 @@ module _ (es : List Entry) (areas services k : List ℕ) where
     aes_given h x group own e p q =
         let g : group ≡ group_aes es (areas ++ services) = p ∙ ap (λ (l : List ℕ). under_each aes_encrypt 16 l chain_start) e in
         aes_steps ∙ all _ ∙ rw (ne_eqb _ _ h) (ap (derived 2) (sym (ap₂ ◌++◌ g q)))
-
--- where nothing is missing, the keys are as many as the nodes
-pub gathered_size : (keys : List ℕ) (ns : List ℕ) (size : ℕ) (w : List ℕ) → ((d : Derived) → needing (entries keys) 2 ns d ≡ d) → size ≤ length w → take size w ≡ keys_of (entries keys) 2 ns → size ≡ length ns * 16
-unfolding key_length choose
-gathered_size keys ns size w all h e = sym (length-take-le size w h) ∙ ap length e ∙ keys_long keys 2 ns (missing_none (entries keys) 2 ns all)
 
 -- zeros stand for an absent individual key
 pub own_key : (o : Option (List ℕ)) → IfSome o (λ k. length k ≡ 16) → unwrap_or o (replicate 16 0) ≡ individual_key (bytes_of o)

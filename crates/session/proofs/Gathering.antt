@@ -62,45 +62,31 @@ module _ (keys : List ℕ) (a n : ℕ) where
   pub has_long : has (entries keys) n a ≡ true → length (key_of (entries keys) a n) ≡ key_length a
   has_long t = key_long (place (entries keys) n a) refl (placed t)
 
--- the key at the place has all 16 bytes
-pub key_at_long : (keys : List ℕ) (a n : ℕ) → has (entries keys) n a ≡ true → length (key_at (entries keys) (place (entries keys) n a)) ≡ 16
-unfolding entries
-key_at_long keys a n t =
-    let h : place (entries keys) n a < length keys / 19 = placed keys a n t in
-    ap length (key_at_lem (length keys / 19) keys (place (entries keys) n a) h) ∙ length_part keys (place (entries keys) n a * 19 + 3) 16 (omega arith)
-
 pub Bytes-key : (keys : List ℕ) (a n : ℕ) → has (entries keys) n a ≡ true → Bytes keys → Bytes (key_of (entries keys) a n)
 Bytes-key keys a n t b =
     rw (key_is keys a n (place (entries keys) n a) refl (placed keys a n t)) (Bytes-take (key_length a) (drop (place (entries keys) n a * 19 + 3) keys) (Bytes-drop (place (entries keys) n a * 19 + 3) keys b))
 
--- m is the mark of the algorithm a, k the length of its keys; key is what the search found
-module _ (keys : List ℕ) (a n m k : ℕ) (em : m ≡ a) (ek : k ≡ key_length a) (key : List ℕ)
-    (found : (has (entries keys) n m ≡ true) × (key ≡ key_at (entries keys) (place (entries keys) n m))) where
-  pub needed_within : k ≤ length key
-  needed_within = let l : length key ≡ 16 = ap length found.1 ∙ key_at_long keys m n found.0 in omega (arith, length_most a)
+-- k is the length of the keys of the algorithm a; key is what the search found
+module _ (es : List Entry) (a n k : ℕ) (ek : k ≡ key_length a) (key : List ℕ) (found : (has es n a ≡ true) × (key ≡ key_at es (place es n a)) × (length key ≡ 16)) where
+  needed_within : k ≤ length key
+  needed_within = omega (arith, length_most a, ek, found.2)
 
-  pub needed_found : (has (entries keys) n a ≡ true) × (take k key ≡ key_of (entries keys) a n) × (length (take k key) ≡ key_length a)
+  pub needed_found : (has es n a ≡ true) × (take k key ≡ key_of es a n) × (length (take k key) ≡ key_length a)
   unfolding key_of
-  needed_found =
-      let t : has (entries keys) n a ≡ true = ap (has (entries keys) n) (sym em) ∙ found.0 in
-      let e : take k key ≡ take (key_length a) (key_at (entries keys) (place (entries keys) n a)) = rw (ek, found.1, em) in
-      (t, e, ap length e ∙ has_long keys a n t)
+  needed_found = (found.0, rw (ek, found.1), length-take-le k key needed_within ∙ ek)
 
--- t is what was asked of the other algorithm b
-module _ (es : List Entry) (n a m b : ℕ) (em : m ≡ a) (eb : b ≡ other a) (none : has es n m ≡ false) (t : Bool) (et : t ≡ has es n b) where
+-- b is the other algorithm, and t what was asked of it
+module _ (es : List Entry) (n a b : ℕ) (eb : b ≡ other a) (none : has es n a ≡ false) (t : Bool) (et : t ≡ has es n b) where
   lacking_has : has es n (other a) ≡ t
   lacking_has = sym (et ∙ ap (has es n) eb)
 
-  lacking_none : has es n a ≡ false
-  lacking_none = ap (has es n) (sym em) ∙ none
-
   pub lacks_other : t ≡ true → (has es n a ≡ false) × (lacks es n a ≡ refusing OtherAlgorithm)
   unfolding lacks choose refusing
-  lacks_other h = (lacking_none, rw (lacking_has, h))
+  lacks_other h = (none, rw (lacking_has, h))
 
   pub lacks_key : t ≡ false → (has es n a ≡ false) × (lacks es n a ≡ refusing (KeyMissing n))
   unfolding lacks choose refusing
-  lacks_key h = (lacking_none, rw (lacking_has, h))
+  lacks_key h = (none, rw (lacking_has, h))
 
 -- ---- the first node that lacks its key
 
@@ -181,43 +167,43 @@ module _ (es : List Entry) (a : ℕ) where
   pub missing_first : (ns ms : List ℕ) → (missing es a (ns ++ ms)).number ≡ 0 → (missing es a ns).number ≡ 0
   missing_first ns ms h = first_at (missing es a ns).number (missing es a ms) (missing es a ns) refl (rw (missing_append ns ms) at h)
 
--- nothing is missing
-pub missing_none : (es : List Entry) (a : ℕ) (ns : List ℕ) → ((d : Derived) → needing es a ns d ≡ d) → (missing es a ns).number ≡ 0
-unfolding missing turned_down
-missing_none es a ns h = ap (λ (d : Derived). d.number) (h (turned_down 0 0))
-
 -- ---- keys gathered
+
+one_more : (ns : List ℕ) (n : ℕ) → length (ns ++ (n ∷ [])) ≡ suc (length ns)
+one_more ns n = omega (arith, length-append ns (n ∷ []))
 
 -- the keys of the nodes ns are there, and stand one behind the other in the first size bytes of w
 pub record Gathered (es : List Entry) (a : ℕ) (ns : List ℕ) (size : ℕ) (w : List ℕ) : Type 0 where
   pub goes : (d : Derived) → needing es a ns d ≡ d
   pub within : size ≤ length w
+  pub size_is : size ≡ length ns * key_length a
   pub bytes : take size w ≡ keys_of es a ns
 
 module _ (es : List Entry) (a : ℕ) where
   pub gathered_none : (w : List ℕ) → Gathered es a [] 0 w
   unfolding needing keys_of
-  gathered_none w = record { goes = λ d. refl; within = omega arith; bytes = refl }
+  gathered_none w = record { goes = λ d. refl; within = omega arith; size_is = omega arith; bytes = refl }
 
   module _ (ns : List ℕ) (size : ℕ) (w : List ℕ) (s : Gathered es a ns size w) (n : ℕ) where
     -- the next key was put behind them
-    pub gathered_more : (key w' : List ℕ) → has es n a ≡ true → key ≡ key_of es a n → size + length key ≤ length w → w' ≡ take size w ++ key ++ drop (size + length key) w
+    pub gathered_more : (key w' : List ℕ) → has es n a ≡ true → key ≡ key_of es a n → length key ≡ key_length a → size + length key ≤ length w → w' ≡ take size w ++ key ++ drop (size + length key) w
         → Gathered es a (ns ++ (n ∷ [])) (size + length key) w'
     unfolding needing choose
-    gathered_more key w' t e room put =
+    gathered_more key w' t e long room put =
         let f : length (take size w ++ key) ≡ size + length key = length-append (take size w) key ∙ ap (λ (x : ℕ). x + length key) (length-take-le size w s.within) in
         let g : take (size + length key) w' ≡ take size w ++ key = ap (take (size + length key)) put ∙ take_at (take size w ++ key) (drop (size + length key) w) (size + length key) f in
         record {
           goes = λ d. needing_append es a ns (n ∷ []) d ∙ s.goes _ ∙ rw t;
           within = omega (arith, f, ap length put, length-append (take size w ++ key) (drop (size + length key) w));
+          size_is = omega (arith, s.size_is, long, ap (λ (x : ℕ). x * key_length a) (one_more ns n), suc-mul (length ns) (key_length a));
           bytes = g ∙ ap₂ ◌++◌ s.bytes (e ∙ sym (keys_of_one es a n)) ∙ sym (keys_of_append es a ns (n ∷ []));
         }
 
     -- by a copy
-    pub gathered_copied : (key last : List ℕ) → has es n a ≡ true → key ≡ key_of es a n → size + length key ≤ length w
+    pub gathered_copied : (key last : List ℕ) → has es n a ≡ true → key ≡ key_of es a n → length key ≡ key_length a → size + length key ≤ length w
         → last ≡ take (length (take (size + length key - size) (drop size w))) key ++ drop (length key) (take (size + length key - size) (drop size w))
         → Gathered es a (ns ++ (n ∷ [])) (size + length key) (put_mid size (size + length key - size) w last)
-    gathered_copied key last t e room q = gathered_more key _ t e room (stored w size (length key) room key last q refl)
+    gathered_copied key last t e long room q = gathered_more key _ t e long room (stored w size (length key) room key last q refl)
 
     -- the next node lacks its key
     pub gathered_lacks : (ms : List ℕ) (o : Derived) → has es n a ≡ false → lacks es n a ≡ o → (d : Derived) → needing es a (ns ++ (n ∷ ms)) d ≡ o
@@ -231,10 +217,10 @@ module _ {S : Type 0} {steps : S → Option ℕ → S → Type 0} {s : S} {all :
   now_is = sym (map-id ns) ∙ YieldsList-so_far road ns t so_far
 
   -- and gives no more
-  pub gather_done : r ≡ None → ((d : Derived) → needing es a all d ≡ d) × (take size w ≡ keys_of es a all)
+  pub gather_done : r ≡ None → ((d : Derived) → needing es a all d ≡ d) × (size ≡ length all * key_length a) × (take size w ≡ keys_of es a all)
   gather_done e =
       let h : ns ≡ all = sym (map-id ns) ∙ (YieldsList-end road ns t so_far r u e next).0 in
-      rw (← h) (g.goes, g.bytes)
+      rw (← h) (g.goes, g.size_is, g.bytes)
 
   -- and gives a node that lacks its key
   pub gather_lacks : (n : ℕ) (o : Refusal) → r ≡ Some n → (has es n a ≡ false) × (lacks es n a ≡ refusing o) → (d : Derived) → needing es a all d ≡ refusing o

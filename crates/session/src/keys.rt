@@ -1,5 +1,5 @@
 // Key derivation (keys.rs, in its order).
-ghost use Rattle.std.specs.Prelude.{◌≡◌, true, false, List, [], ◌++◌, ℕ, ◌/◌, ◌<◌, ◌≤◌, ◌≢◌, length, MatchOption, MatchResult, IfOk, IfSome};
+ghost use Rattle.std.specs.Prelude.{◌≡◌, true, false, List, [], ◌++◌, ℕ, ◌/◌, ◌<◌, ◌≤◌, ◌≢◌, length, MatchOption, MatchResult, IfOk, IfSome, map};
 ghost use Rattle.std.specs.Iterator.{UpTo};
 ghost use Rattle.answer.specs.Scheme.{mark_of};
 ghost use Rattle.session.specs.Derivation.{des_rows, other, key_length, key_of, lacks, derived, derived_des, derived_aes, target, derive_rows, derivation, with_room, Derives};
@@ -23,49 +23,122 @@ pub struct DerivedAuthKeys {
 }
 
 // Whether a key entry is that of a node and an algorithm.
-fn is_for(entry: &[u8], node: u16, algorithm: u8) -> bool
-    requires { length entry.now ≡ 19 }
+fn is_for(entry: &[u8; 19], node: u16, algorithm: u8) -> bool
     ensures { result ≡ is_for (entry_of entry.now) node algorithm }
 {
     u16::from_le_bytes([entry[0], entry[1]]) == node && entry[2] == algorithm
 }
 
-// The key of the first entry of a node and an algorithm.
-fn find_key(keys: &[u8], node: u16, algorithm: u8) -> Option<&[u8]>
-    ensures { MatchOption result (has (entries keys.now) node algorithm ≡ false) (λ key. (has (entries keys.now) node algorithm ≡ true) × (key.now ≡ key_at (entries keys.now) (place (entries keys.now) node algorithm))) }
-{
-    let entry = keys
-        .chunks_exact(19)
-        .find(|entry| is_for(entry, node, algorithm))?;
-    Some(&entry[3..19])
+// The entries of a key list: a node, the low byte first, the mark of an algorithm, and the 16 bytes of a key.
+#[derive(Drop)]
+struct ResolvedNodeKeys<'a> {
+    entries: &'a [[u8; 19]],
 }
 
-fn has_key(keys: &[u8], node: u16, algorithm: u8) -> bool
-    ensures { result ≡ has (entries keys.now) node algorithm }
-{
-    find_key(keys, node, algorithm).is_some()
-}
-
-fn any_algorithm_unknown(keys: &[u8]) -> bool
-    ensures { result ≡ unknown_algorithm (entries keys.now) }
-{
-    keys.chunks_exact(19)
-        .any(|entry| Scheme::try_from(entry[2]).is_err())
-}
-
-// Whether two keys have the same node and algorithm.
-fn any_key_twice(keys: &[u8]) -> bool
-    ensures { result ≡ twice (entries keys.now) }
-{
-    let mut rest = keys;
-    while let Some((entry, others)) = rest.split_first_chunk::<19>() {
-        let node = u16::from_le_bytes([entry[0], entry[1]]);
-        if has_key(others, node, entry[2]) {
-            return true;
-        }
-        rest = others;
+impl<'a> ResolvedNodeKeys<'a> {
+    fn from_keys(keys: &'a [u8]) -> Self
+        ensures { map entry_of result.entries.now ≡ entries keys.now }
+    {
+        let (entries, _) = keys.as_chunks();
+        ResolvedNodeKeys { entries }
     }
-    false
+
+    // The key of the first entry of a node and a scheme's algorithm.
+    fn find(&self, node: u16, scheme: Scheme) -> Option<&'a [u8]>
+        ensures { let all = map entry_of self.now.entries.now in MatchOption result (has all node (mark_of scheme) ≡ false) (λ key. (has all node (mark_of scheme) ≡ true) × (key.now ≡ key_at all (place all node (mark_of scheme))) × (length key.now ≡ 16)) }
+    {
+        let algorithm = scheme.mark();
+        let entry = self
+            .entries
+            .iter()
+            .find(|entry| is_for(entry, node, algorithm))?;
+        Some(&entry[3..19])
+    }
+
+    fn has(&self, node: u16, scheme: Scheme) -> bool
+        ensures { result ≡ has (map entry_of self.now.entries.now) node (mark_of scheme) }
+    {
+        self.find(node, scheme).is_some()
+    }
+
+    fn any_algorithm_unknown(&self) -> bool
+        ensures { result ≡ unknown_algorithm (map entry_of self.now.entries.now) }
+    {
+        self.entries
+            .iter()
+            .any(|entry| Scheme::try_from(entry[2]).is_err())
+    }
+
+    // Whether two keys have the same node and algorithm.
+    fn any_twice(&self) -> bool
+        ensures { result ≡ twice (map entry_of self.now.entries.now) }
+    {
+        let mut rest = self.entries;
+        while let Some((entry, others)) = rest.split_first() {
+            let node = u16::from_le_bytes([entry[0], entry[1]]);
+            let algorithm = entry[2];
+            if others.iter().any(|other| is_for(other, node, algorithm)) {
+                return true;
+            }
+            rest = others;
+        }
+        false
+    }
+
+    // The key of a node (require_des, require_aes). A node that lacks it is refused: OtherAlgorithm where it has a key of the other algorithm, else
+    // KeyMissing.
+    fn require(&self, node: u16, scheme: Scheme) -> Result<&'a [u8], Refusal>
+        ensures { let all = map entry_of self.now.entries.now in MatchResult result (λ key. (has all node (mark_of scheme) ≡ true) × (key.now ≡ key_of all (mark_of scheme) node) × (length key.now ≡ key_length (mark_of scheme))) (λ e. (has all node (mark_of scheme) ≡ false) × (lacks all node (mark_of scheme) ≡ refusing e)) }
+    {
+        match self.find(node, scheme) {
+            Some(key) => Ok(&key[..key_length(scheme)]),
+            None => {
+                if self.has(node, other_scheme(scheme)) {
+                    Err(Refusal::OtherAlgorithm)
+                } else {
+                    Err(Refusal::KeyMissing(node))
+                }
+            }
+        }
+    }
+
+    // Puts the keys of nodes one behind the other over the front of work; answers how many bytes they are. There is no heap for a list of them.
+    fn gather<I: Iterator<Item = u16> + Drop>(
+        &self,
+        nodes: I,
+        scheme: Scheme,
+        work: &mut [u8],
+    ) -> Result<usize, Refusal>
+        requires can { I.can_next nodes }
+        requires room { UpTo (I.remaining nodes) (length work.old / 16) }
+        ensures within { IfOk result (λ size. size ≤ length work.new) }
+        ensures gathered { (ns : List ℕ) → Lists I.next_gives nodes ns → Gathers (map entry_of self.now.entries.now) (mark_of scheme) ns result work.new }
+    {
+        let mut end = 0;
+        for node in nodes {
+            let key = self.require(node, scheme)?;
+            let start = end;
+            end += key.len();
+            // a memcpy, as in deliver
+            cipher::copy(key, &mut work[start..end]);
+        }
+        Ok(end)
+    }
+
+    // A block encrypted under the DES key of each node in turn.
+    fn under_des<I: Iterator<Item = u16> + Drop>(
+        &self,
+        nodes: I,
+        block: [u8; 8],
+    ) -> Result<[u8; 8], Refusal>
+        requires can { I.can_next nodes }
+        requires few { UpTo (I.remaining nodes) 32 }
+        ensures { (ns : List ℕ) → Lists I.next_gives nodes ns → Chains (map entry_of self.now.entries.now) ns block result }
+    {
+        let mut work = [0u8; 512];
+        let size = self.gather(nodes, Scheme::Des, &mut work)?;
+        Ok(cipher::encrypt_des_under_each(block, &work[..size]))
+    }
 }
 
 // The derived keys, one behind the other over the front of out.
@@ -136,7 +209,7 @@ pub fn derive_auth_keys(
 #[derive(Drop)]
 struct Inputs<'a> {
     forced: Option<Scheme>,
-    keys: &'a [u8],
+    keys: ResolvedNodeKeys<'a>,
     areas: &'a [u8],
     services: &'a [u8],
     individual: Option<[u8; 16]>,
@@ -154,20 +227,21 @@ impl<'a> Inputs<'a> {
         individual: &[u8],
     ) -> Result<Inputs<'a>, Refusal>
         ensures guards { Guards (derive_rows mark keys.now areas.now services.now individual.now) result }
-        ensures given { IfOk result (λ inputs. (forced_mark inputs.forced ≡ mark) × (inputs.keys.now ≡ keys.now) × (inputs.areas.now ≡ areas.now) × (inputs.services.now ≡ services.now) × (bytes_of inputs.individual ≡ individual.now)) }
+        ensures given { IfOk result (λ inputs. (forced_mark inputs.forced ≡ mark) × (map entry_of inputs.keys.entries.now ≡ entries keys.now) × (inputs.areas.now ≡ areas.now) × (inputs.services.now ≡ services.now) × (bytes_of inputs.individual ≡ individual.now)) }
     {
         let forced = forced_scheme(mark)?;
         let individual = individual_key(individual)?;
         if keys.len() % 19 != 0 || areas.len() % 2 != 0 || services.len() % 2 != 0 {
             return Err(Refusal::BadMarkOrLength);
         }
-        if any_algorithm_unknown(keys) {
+        let keys = ResolvedNodeKeys::from_keys(keys);
+        if keys.any_algorithm_unknown() {
             return Err(Refusal::BadMarkOrLength);
         }
-        if 128 < keys.len() / 19 || 32 < areas.len() / 2 || 32 < services.len() / 2 {
+        if 128 < keys.entries.len() || 32 < areas.len() / 2 || 32 < services.len() / 2 {
             return Err(Refusal::TooManyEntries);
         }
-        if any_key_twice(keys) {
+        if keys.any_twice() {
             return Err(Refusal::SameKeyTwice);
         }
         Ok(Inputs {
@@ -193,16 +267,16 @@ impl<'a> Inputs<'a> {
 
     // The scheme by which a derivation goes on: the forced one, else that of the target's key, AES before DES.
     fn choose_scheme(&self) -> Result<Scheme, Refusal>
-        ensures { Chooses (forced_mark self.now.forced) (entries self.now.keys.now) (node_list self.now.areas.now) (node_list self.now.services.now) result }
+        ensures { Chooses (forced_mark self.now.forced) (map entry_of self.now.keys.entries.now) (node_list self.now.areas.now) (node_list self.now.services.now) result }
     {
         if let Some(scheme) = self.forced {
             return Ok(scheme);
         }
         let node = self.target_node().ok_or(Refusal::NoNodes)?;
-        if has_key(self.keys, node, Scheme::Aes128.mark()) {
+        if self.keys.has(node, Scheme::Aes128) {
             return Ok(Scheme::Aes128);
         }
-        if has_key(self.keys, node, Scheme::Des.mark()) {
+        if self.keys.has(node, Scheme::Des) {
             return Ok(Scheme::Des);
         }
         Err(Refusal::KeyMissing(node))
@@ -225,24 +299,25 @@ impl<'a> Inputs<'a> {
     }
 
     fn derive_des(&self, out: &mut [u8]) -> Result<DerivedAuthKeys, Refusal>
-        ensures { Derives (with_room (length out.old) (derived_des (entries self.now.keys.now) (node_list self.now.areas.now) (node_list self.now.services.now) (bytes_of self.now.individual))) result out.old out.new }
+        ensures { Derives (with_room (length out.old) (derived_des (map entry_of self.now.keys.entries.now) (node_list self.now.areas.now) (node_list self.now.services.now) (bytes_of self.now.individual))) result out.old out.new }
     {
         self.check_des()?;
-        let system = needed_key(self.keys, Scheme::Des, SYSTEM_SERVICE_CODE)?;
-        let group = under_des_keys(self.keys, Nodes::of(self.areas), answer::fit(system))?;
+        let system = self.keys.require(SYSTEM_SERVICE_CODE, Scheme::Des)?;
+        let group = self
+            .keys
+            .under_des(Nodes::of(self.areas), answer::fit(system))?;
         let keyed = Nodes::of(self.services).filter(|service| !is_key_free_service(*service));
-        let user = under_des_keys(self.keys, keyed, group)?;
+        let user = self.keys.under_des(keyed, group)?;
         deliver(Scheme::Des, &group, &user, out)
     }
 
     fn derive_aes128(&self, out: &mut [u8]) -> Result<DerivedAuthKeys, Refusal>
-        ensures { Derives (with_room (length out.old) (derived_aes (entries self.now.keys.now) (node_list self.now.areas.now) (node_list self.now.services.now) (bytes_of self.now.individual))) result out.old out.new }
+        ensures { Derives (with_room (length out.old) (derived_aes (map entry_of self.now.keys.entries.now) (node_list self.now.areas.now) (node_list self.now.services.now) (bytes_of self.now.individual))) result out.old out.new }
     {
         let mut work = [0u8; 1024];
-        let size = gather(
-            self.keys,
-            Scheme::Aes128,
+        let size = self.keys.gather(
             Nodes::of(self.areas).chain(Nodes::of(self.services)),
+            Scheme::Aes128,
             &mut work,
         )?;
         if size == 0 {
@@ -252,21 +327,6 @@ impl<'a> Inputs<'a> {
         let own = self.individual.unwrap_or([0u8; 16]);
         deliver(Scheme::Aes128, &group, &own, out)
     }
-}
-
-// A block encrypted under the DES key of each node in turn.
-fn under_des_keys<I: Iterator<Item = u16> + Drop>(
-    keys: &[u8],
-    nodes: I,
-    block: [u8; 8],
-) -> Result<[u8; 8], Refusal>
-    requires can { I.can_next nodes }
-    requires few { UpTo (I.remaining nodes) 32 }
-    ensures { (ns : List ℕ) → Lists I.next_gives nodes ns → Chains (entries keys.now) ns block result }
-{
-    let mut work = [0u8; 512];
-    let size = gather(keys, Scheme::Des, nodes, &mut work)?;
-    Ok(cipher::encrypt_des_under_each(block, &work[..size]))
 }
 
 fn other_scheme(scheme: Scheme) -> Scheme
@@ -286,45 +346,4 @@ fn key_length(scheme: Scheme) -> usize
         Scheme::Des => 8,
         Scheme::Aes128 => 16,
     }
-}
-
-// The key of a node (require_des, require_aes). A node that lacks it is refused: OtherAlgorithm where it has a key of the other algorithm, else
-// KeyMissing. In a function of its own the loop of the search is aligned: inlined, a derivation takes a seventh (DES) to a quarter (AES) longer.
-#[inline(never)]
-fn needed_key(keys: &[u8], scheme: Scheme, node: u16) -> Result<&[u8], Refusal>
-    ensures { MatchResult result (λ key. (has (entries keys.now) node (mark_of scheme) ≡ true) × (key.now ≡ key_of (entries keys.now) (mark_of scheme) node) × (length key.now ≡ key_length (mark_of scheme))) (λ e. (has (entries keys.now) node (mark_of scheme) ≡ false) × (lacks (entries keys.now) node (mark_of scheme) ≡ refusing e)) }
-{
-    match find_key(keys, node, scheme.mark()) {
-        Some(key) => Ok(&key[..key_length(scheme)]),
-        None => {
-            if has_key(keys, node, other_scheme(scheme).mark()) {
-                Err(Refusal::OtherAlgorithm)
-            } else {
-                Err(Refusal::KeyMissing(node))
-            }
-        }
-    }
-}
-
-// Puts the keys of nodes one behind the other over the front of work; answers how many bytes they are. There is no heap for a list of them.
-fn gather<I: Iterator<Item = u16> + Drop>(
-    keys: &[u8],
-    scheme: Scheme,
-    nodes: I,
-    work: &mut [u8],
-) -> Result<usize, Refusal>
-    requires can { I.can_next nodes }
-    requires room { UpTo (I.remaining nodes) (length work.old / 16) }
-    ensures within { IfOk result (λ size. size ≤ length work.new) }
-    ensures gathered { (ns : List ℕ) → Lists I.next_gives nodes ns → Gathers (entries keys.now) (mark_of scheme) ns result work.new }
-{
-    let mut end = 0;
-    for node in nodes {
-        let key = needed_key(keys, scheme, node)?;
-        let start = end;
-        end += key.len();
-        // a memcpy, as in deliver
-        cipher::copy(key, &mut work[start..end]);
-    }
-    Ok(end)
 }

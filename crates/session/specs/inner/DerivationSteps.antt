@@ -1,5 +1,5 @@
 -- What the steps of a derivation answer. Assumes nothing.
-use Rattle.std.specs.Prelude.{ℕ, ◌≡◌, List, [], Option, None, Some, Result, MatchResult, take}
+use Rattle.std.specs.Prelude.{ℕ, ◌*◌, ◌≡◌, List, [], Option, None, Some, Result, MatchResult, length, take}
 use Rattle.std.specs.Iterator.{AlwaysYields}
 use Rattle.cipher.specs.Fips46.{des_encrypt}
 use Rattle.cipher.specs.Fold.{under_each}
@@ -9,7 +9,7 @@ use Rattle.answer.specs.Scheme.{mark_of}
 use Rattle.answer.specs.declared.refusal.Refusal.{Refusal}
 use Rattle.answer.specs.declared.scheme.Scheme.{Scheme}
 use Rattle.session.specs.Entries.{Entry}
-use Rattle.session.specs.Derivation.{Derived, turned_down, DES, needing, keys_of, derived_by, derived_for}
+use Rattle.session.specs.Derivation.{Derived, turned_down, DES, needing, key_length, keys_of, derived_by, derived_for}
 
 -- the refusal e of a derivation
 unfoldable pub refusing : Refusal → Derived
@@ -39,9 +39,10 @@ Chooses mark es areas services r = MatchResult r
 pub record Lists {S : Type 0} (steps : S → Option ℕ → S → Type 0) (s : S) (ns : List ℕ) : Type 0 where
   pub runs : AlwaysYields steps (λ x. x) s ns
 
--- the keys of the nodes ns are the first bytes of w, r of them; or the first of the nodes that lacks its key refuses
+-- the keys of the nodes ns are the first bytes of w, r of them, as many for each node as its algorithm wants; or the first of the nodes that lacks
+-- its key refuses
 abbrev pub Gathers : List Entry → ℕ → List ℕ → Result ℕ Refusal → List ℕ → Type 0
-Gathers es algorithm ns r w = MatchResult r (λ size. ((d : Derived) → needing es algorithm ns d ≡ d) × (take size w ≡ keys_of es algorithm ns)) (λ e. (d : Derived) → needing es algorithm ns d ≡ refusing e)
+Gathers es algorithm ns r w = MatchResult r (λ size. ((d : Derived) → needing es algorithm ns d ≡ d) × (size ≡ length ns * key_length algorithm) × (take size w ≡ keys_of es algorithm ns)) (λ e. (d : Derived) → needing es algorithm ns d ≡ refusing e)
 
 -- r is the block under the DES keys of the nodes ns, or such a refusal
 abbrev pub Chains : List Entry → List ℕ → List ℕ → Result (List ℕ) Refusal → Type 0

@@ -1,6 +1,4 @@
-use Rattle.std.proofs.Common.{◌∙◌, ap}
 use Rattle.std.proofs.lemmas.Result.{err_from_is_err_and}
-use Rattle.session.specs.Entries.{has}
 use Rattle.session.proofs.DerivationSteps.{no_target, chosen_forced, unforced, chosen_none, chosen_aes, chosen_des, chosen_lacking}
 use Rattle.session.proofs.keys.Inputs.choose_scheme.Goals as goal
 
@@ -13,17 +11,17 @@ returns-in_err-node c =
     let t = no_target _ _ _ _ c.target_node.ensures c.in_err-node.ensures.value in
     rw (p.1, p.2, ← t.1) (chosen_none _ _ _ _ (unforced _ c.in_default.not-Some) t.0)
 
-pub returns-then-has_key : goal.returns-then-has_key
-returns-then-has_key c =
+pub returns-then-has : goal.returns-then-has
+returns-then-has c =
     let t = rw c.in_ok-node.ensures.ok_part at c.target_node.ensures in
-    chosen_aes _ _ _ _ (unforced _ c.in_default.not-Some) t.0 _ t.1 _ (c.has_key.ensures ∙ ap (has _ _) c.mark.ensures) c.if-has_key.true
+    chosen_aes _ _ _ _ (unforced _ c.in_default.not-Some) t.0 _ t.1 _ c.has.ensures c.if-has.true
 
-pub returns-then-has_key-2 : goal.returns-then-has_key-2
-returns-then-has_key-2 c =
+pub returns-then-has-2 : goal.returns-then-has-2
+returns-then-has-2 c =
     let t = rw c.in_ok-node.ensures.ok_part at c.target_node.ensures in
-    chosen_des _ _ _ _ (unforced _ c.in_default.not-Some) t.0 _ t.1 _ (c.has_key.ensures ∙ ap (has _ _) c.mark.ensures) c.if-has_key.false _ (c.has_key-2.ensures ∙ ap (has _ _) c.mark-2.ensures) c.if-has_key-2.true
+    chosen_des _ _ _ _ (unforced _ c.in_default.not-Some) t.0 _ t.1 _ c.has.ensures c.if-has.false _ c.has-2.ensures c.if-has-2.true
 
 pub returns : goal.returns
 returns c =
     let t = rw c.in_ok-node.ensures.ok_part at c.target_node.ensures in
-    chosen_lacking _ _ _ _ (unforced _ c.in_default.not-Some) t.0 _ t.1 _ (c.has_key.ensures ∙ ap (has _ _) c.mark.ensures) c.if-has_key.false _ (c.has_key-2.ensures ∙ ap (has _ _) c.mark-2.ensures) c.if-has_key-2.false
+    chosen_lacking _ _ _ _ (unforced _ c.in_default.not-Some) t.0 _ t.1 _ c.has.ensures c.if-has.false _ c.has-2.ensures c.if-has-2.false

@@ -5,11 +5,11 @@ use Rattle.session.proofs.NodeLists.{length_nodes, Lists-nodes, Lists-keyed}
 use Rattle.session.proofs.DerivationSteps.{question_derives, des_refused, des_no_system, des_lacks_area, des_lacks_service, des_given}
 use Rattle.session.proofs.keys.Inputs.derive_des.Goals as goal
 
-pub under_des_keys-requires-clause-few : goal.under_des_keys-requires-clause-few
-under_des_keys-requires-clause-few c = rw (c.of.ensures, length_nodes) (tt, c.args.self.now.few.0)
+pub under_des-requires-clause-few : goal.under_des-requires-clause-few
+under_des-requires-clause-few c = rw (c.of.ensures, length_nodes) (tt, c.args.self.now.few.0)
 
-pub under_des_keys-requires-2-clause-few : goal.under_des_keys-requires-2-clause-few
-under_des_keys-requires-2-clause-few c = rw (c.filter-keyed.ensures.source, c.of-2.ensures, length_nodes) (tt, c.args.self.now.few.1)
+pub under_des-requires-2-clause-few : goal.under_des-requires-2-clause-few
+under_des-requires-2-clause-few c = rw (c.filter-keyed.ensures.source, c.of-2.ensures, length_nodes) (tt, c.args.self.now.few.1)
 
 pub returns-in_err-check_des : goal.returns-in_err-check_des
 returns-in_err-check_des c = question_derives _ _ _ _ _ c.from_residual.ensures.1 (des_refused _ _ _ _ _ c.in_err-check_des.ensures)

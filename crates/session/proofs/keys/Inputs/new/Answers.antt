@@ -28,29 +28,29 @@ pub returns-then-any_algorithm_unknown-clause-guards : goal.returns-then-any_alg
 unfolding choose
 returns-then-any_algorithm_unknown-clause-guards c =
     let b = by_lists _ _ _ _ _ _ c.in_ok-forced.ensures c.in_ok-individual.individual (search rules) c.in_ok-individual.ensures in
-    (b ∙ lists_whole _ _ _ c.if-keys-ne0.false c.if-areas-ne0.false c.if-services-ne0.false ∙ rw (sym c.any_algorithm_unknown.ensures ∙ c.if-any_algorithm_unknown.true), refl)
+    (b ∙ lists_whole _ _ _ _ c.from_keys-keys.ensures c.if-keys-ne0.false c.if-areas-ne0.false c.if-services-ne0.false ∙ rw (sym c.any_algorithm_unknown.ensures ∙ c.if-any_algorithm_unknown.true), refl)
 
 pub returns-then-keys-gt128-clause-guards : goal.returns-then-keys-gt128-clause-guards
 unfolding choose either
 returns-then-keys-gt128-clause-guards c =
     let b = by_lists _ _ _ _ _ _ c.in_ok-forced.ensures c.in_ok-individual.individual (search rules) c.in_ok-individual.ensures in
-    let e = b ∙ lists_known _ _ _ c.if-keys-ne0.false c.if-areas-ne0.false c.if-services-ne0.false (sym c.any_algorithm_unknown.ensures ∙ c.if-any_algorithm_unknown.false) in
+    let e = b ∙ lists_known _ _ _ _ c.from_keys-keys.ensures c.if-keys-ne0.false c.if-areas-ne0.false c.if-services-ne0.false (sym c.any_algorithm_unknown.ensures ∙ c.if-any_algorithm_unknown.false) in
     elim c.then-keys-gt128.branch [
       | then-keys-gt128-via-then-keys-gt128 w ↦ (e ∙ rw (lt-ltb _ _ w.if-keys-gt128.true), refl)
       | then-keys-gt128-via-else-keys-gt128+then-areas-gt32 w ↦ (e ∙ rw (le-ltb _ _ w.if-keys-gt128.false, lt-ltb _ _ w.if-areas-gt32.true), refl)
       | then-keys-gt128-via-else-keys-gt128+else-areas-gt32+then-services-gt32 w ↦ (e ∙ rw (le-ltb _ _ w.if-keys-gt128.false, le-ltb _ _ w.if-areas-gt32.false, lt-ltb _ _ w.if-services-gt32.true), refl)
     ]
 
-pub returns-then-any_key_twice-clause-guards : goal.returns-then-any_key_twice-clause-guards
+pub returns-then-any_twice-clause-guards : goal.returns-then-any_twice-clause-guards
 unfolding choose
-returns-then-any_key_twice-clause-guards c =
+returns-then-any_twice-clause-guards c =
     let b = by_lists _ _ _ _ _ _ c.in_ok-forced.ensures c.in_ok-individual.individual (search rules) c.in_ok-individual.ensures in
-    let e = b ∙ lists_few _ _ _ c.if-keys-ne0.false c.if-areas-ne0.false c.if-services-ne0.false (sym c.any_algorithm_unknown.ensures ∙ c.if-any_algorithm_unknown.false) c.if-keys-gt128.false c.if-areas-gt32.false c.if-services-gt32.false in
-    (e ∙ rw (sym c.any_key_twice.ensures ∙ c.if-any_key_twice.true), refl)
+    let e = b ∙ lists_few _ _ _ _ c.from_keys-keys.ensures c.if-keys-ne0.false c.if-areas-ne0.false c.if-services-ne0.false (sym c.any_algorithm_unknown.ensures ∙ c.if-any_algorithm_unknown.false) c.if-keys-gt128.false c.if-areas-gt32.false c.if-services-gt32.false in
+    (e ∙ rw (sym c.any_twice.ensures ∙ c.if-any_twice.true), refl)
 
 pub returns-clause-guards : goal.returns-clause-guards
 unfolding choose
 returns-clause-guards c =
     let b = by_lists _ _ _ _ _ _ c.in_ok-forced.ensures c.in_ok-individual.individual (search rules) c.in_ok-individual.ensures in
-    let e = b ∙ lists_few _ _ _ c.if-keys-ne0.false c.if-areas-ne0.false c.if-services-ne0.false (sym c.any_algorithm_unknown.ensures ∙ c.if-any_algorithm_unknown.false) c.if-keys-gt128.false c.if-areas-gt32.false c.if-services-gt32.false in
-    e ∙ rw (sym c.any_key_twice.ensures ∙ c.if-any_key_twice.false)
+    let e = b ∙ lists_few _ _ _ _ c.from_keys-keys.ensures c.if-keys-ne0.false c.if-areas-ne0.false c.if-services-ne0.false (sym c.any_algorithm_unknown.ensures ∙ c.if-any_algorithm_unknown.false) c.if-keys-gt128.false c.if-areas-gt32.false c.if-services-gt32.false in
+    e ∙ rw (sym c.any_twice.ensures ∙ c.if-any_twice.false)

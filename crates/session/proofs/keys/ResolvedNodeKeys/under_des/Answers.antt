@@ -4,7 +4,7 @@ use Rattle.std.proofs.Common.{◌∙◌, ap}
 use Rattle.std.proofs.lemmas.Result.{err_from_is_err_and}
 use Rattle.cipher.specs.Fips46.{des_encrypt}
 use Rattle.cipher.specs.Fold.{under_each}
-use Rattle.session.proofs.keys.under_des_keys.Goals as goal
+use Rattle.session.proofs.keys.ResolvedNodeKeys.under_des.Goals as goal
 
 pub returns-in_err-size : goal.returns-in_err-size
 returns-in_err-size g c =
@@ -14,4 +14,4 @@ returns-in_err-size g c =
 pub returns : goal.returns
 returns g c = λ ns y.
     let k = c.in_ok-size.ensures.gathered ns y in
-    (k.0, c.encrypt_des_under_each.ensures ∙ ap (λ (l : List ℕ). under_each des_encrypt 8 l c.args.block) k.1)
+    (k.0, c.encrypt_des_under_each.ensures ∙ ap (λ (l : List ℕ). under_each des_encrypt 8 l c.args.block) k.2)

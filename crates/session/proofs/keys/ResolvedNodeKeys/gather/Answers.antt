@@ -3,7 +3,7 @@ use Rattle.std.proofs.lemmas.Result.{err_from_is_err_and}
 use Rattle.std.proofs.lemmas.Iterator.{YieldsList}
 use Rattle.std.proofs.lemmas.Iterator.Consumers.{YieldsList-at}
 use Rattle.session.proofs.Gathering.{length_most, gathered_none, gathered_copied, gather_lacks, gather_done}
-use Rattle.session.proofs.keys.gather.Goals as goal
+use Rattle.session.proofs.keys.ResolvedNodeKeys.gather.Goals as goal
 
 pub loop-node-init : goal.loop-node-init
 loop-node-init g c =
@@ -33,7 +33,7 @@ loop-node-preserved g c =
       can = h.0;
       finite = h.1;
       room = omega (arith, h.2, k.2, m, length_most);
-      gathered = gathered_copied _ _ _ _ _ c.loop-node.invariant.gathered _ _ _ k.0 k.1 r c.copy.ensures;
+      gathered = gathered_copied _ _ _ _ _ c.loop-node.invariant.gathered _ _ _ k.0 k.1 k.2 r c.copy.ensures;
     }
 
 pub returns-clause-gathered : goal.returns-clause-gathered
