@@ -1,20 +1,11 @@
 -- What C gets of an answer, and that its parts come back. Assumes nothing.
-use mathlib.Core.Path.{◌≡◌, sym, ap, ◌∙◌}
+use mathlib.Core.Path.{◌≡◌, ◌∙◌}
 use mathlib.Core.List.{List}
 use Prim.Native.Nat.{ℕ, ◌<◌}
 use native.Mathlib.Omega.{arith}
-use Rattle.std.specs.Prelude.{Result, MatchOption, ◌≢◌}
-use Rattle.std.specs.Option.{unwrap_or}
-use Rattle.std.specs.declared.option.Option.{Option}
-use Rattle.std.specs.declared.option.Option.TheVariants.{Some, None}
 use Rattle.answer.specs.Outcome.{Outcome, Meets, Answer, answer_number, answer_length, answer_transaction}
-use Rattle.answer.specs.Refusal.{refusal_number, refusal_node}
-use Rattle.answer.specs.declared.refusal.Refusal.{Refusal}
-use Rattle.answer.specs.declared.refusal.Refusal.TheVariants.{KeyMissing}
 use Rattle.frame.specs.Forecast.{forecasting}
-use Rattle.felica_secure.specs.Packed.{packed, packed_number, packed_mark, packed_length, packed_transaction, Returns, ReturnsDerived}
-use Rattle.session.specs.Derivation.{Derived, Derives, derived_number, derived_node, derived_scheme, derived_length}
-use Rattle.session.specs.declared.keys.DerivedAuthKeys.{DerivedAuthKeys}
+use Rattle.felica_secure.specs.Packed.{packed, packed_number, packed_mark, packed_length, packed_transaction, Returns}
 
 -- the parts of a packed answer are what was packed
 module _ (number mark length transaction : ℕ) (hn : number < 0x100) (hm : mark < 0x100) (hl : length < 0x10000) (ht : transaction < 0x10000) where
@@ -42,12 +33,3 @@ meets_returns o a r before after m e = record { answer = e ∙ rw (m.number, m.l
 pub forecast_packed : (scheme n : ℕ) (a : Answer) (r : ℕ) → (answer_number a ≡ (forecasting scheme n).number) × (answer_length a ≡ (forecasting scheme n).size) × (answer_transaction a ≡ 0)
     → r ≡ packed (answer_number a) 0 (answer_length a) (answer_transaction a) → r ≡ packed (forecasting scheme n).number 0 (forecasting scheme n).size 0
 forecast_packed scheme n a r f e = e ∙ rw (f.0, f.1, f.2)
-
--- the node of a refusal, 0 where it has none
-pub node_or_zero : (e : Refusal) (o : Option ℕ) → MatchOption o ((refusal_number e ≢ 4) × (refusal_node e ≡ 0)) (λ n. e ≡ KeyMissing n) → unwrap_or o 0 ≡ refusal_node e
-node_or_zero e None h = sym h.1
-node_or_zero e (Some n) h = sym (ap refusal_node h)
-
--- a derivation's answer, packed
-pub derives_returns : (d : Derived) (a : Result DerivedAuthKeys Refusal) (r : ℕ) (before after : List ℕ) → Derives d a before after → r ≡ packed (derived_number a) (derived_scheme a) (derived_length a) (derived_node a) → ReturnsDerived d r before after
-derives_returns d a r before after m e = record { answer = e ∙ rw (m.number, m.scheme, m.length_is, m.node); output = m.output }
