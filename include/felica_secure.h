@@ -285,8 +285,10 @@ uint64_t felica_forecast(uint8_t scheme, size_t payload_len);
 
 // ---- DES
 
-// Opens DES data as felica_decrypt_response does, and drops what looks like padding: if the payload's last byte v is 1 to 7, its last v
-// bytes are dropped, whatever they are. A payload in whole blocks that ends in such a byte loses v bytes too.
+// Opens DES data as felica_decrypt_response does, and drops padding: if the payload's last byte v is 1 to 7 and its last v bytes all equal
+// v, they are dropped, once; else nothing is. A record in whole blocks that truly ends in 01 (or in 02 02, .. in seven 07) still loses these
+// bytes, since from the bytes alone nobody can tell. Who sends such records uses the untrimmed opening, felica_decrypt_response, and a length
+// of his own.
 // Refusals: 17 (ID, key), 10, 11 (data under 16), 12 (data over 253), 13, 14, 16 (about the trimmed payload).
 uint64_t felica_decrypt_response_trimmed_des(uint8_t code,
                                              const uint8_t *id, size_t id_len,

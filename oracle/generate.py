@@ -57,7 +57,7 @@ class Case:
         whole = self.r.bytes(n)
         if kind < 6 and n:
             last = self.r.below(10)
-            count = min(n, self.r.one_of((1, last)))
+            count = min(n, self.r.one_of((1, last, max(last - 1, 0))))
             return whole[: n - count] + bytes([last]) * count
         return whole
 

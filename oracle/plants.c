@@ -21,6 +21,7 @@
     P(HIGH_BIT, "high_bit", "checking 2B: 13 with bit 48") \
     P(FORECAST, "forecast", "forecast of 17 bytes, AES: one above the sealed size") \
     P(TRIM, "trim", "trimmed opening: a last byte of 7 drops nothing") \
+    P(TRIM_LAST, "trim_last", "trimmed opening: a last byte of 3 drops three bytes, whatever they are") \
     P(CHECK, "check", "checking 1B: the last byte is not compared") \
     P(STEP, "step", "number step at 0xFFFF: 0 and the number 0") \
     P(SET, "set", "setting the number: it does not go back") \
@@ -142,19 +143,19 @@ static uint64_t in_answer(const struct call *c, uint64_t answer)
 
 // ---- what is decided
 
-// The payload with what looks like padding, where its last byte is 7.
-static uint64_t untrimmed(const struct call *c, uint64_t answer)
+// The payload without its last `drops` bytes, where the last one is `last`.
+static uint64_t trimmed(const struct call *c, uint64_t answer, unsigned last, size_t drops)
 {
     uint8_t whole[256];
     uint64_t own = felica_decrypt_response(FELICA_SCHEME_DES, c->code, c->in[0].at, c->in[0].n, c->in[1].at, c->in[1].n, c->in[2].at,
                                            c->in[2].n, whole, sizeof whole);
     size_t n = felica_answer_length(own);
 
-    if (n == 0 || whole[n - 1] != 7 || n > c->out.n) {
+    if (n == 0 || whole[n - 1] != last || n - drops > c->out.n) {
         return answer;
     }
-    memcpy(c->out.at, whole, n);
-    return own;
+    memcpy(c->out.at, whole, n - drops);
+    return own - ((uint64_t)drops << 16);
 }
 
 static uint64_t first_bytes(const struct call *c, uint64_t answer)
@@ -217,7 +218,10 @@ uint64_t planted(const struct call *c, const uint8_t *before, uint64_t answer)
 {
     in_memory(c, answer);
     if (plant == TRIM && is(c, "trimmed") && felica_answer_number(answer) == 0) {
-        return untrimmed(c, answer);
+        return trimmed(c, answer, 7, 0);
+    }
+    if (plant == TRIM_LAST && is(c, "trimmed") && felica_answer_number(answer) == 0) {
+        return trimmed(c, answer, 3, 3);
     }
     if (plant == CHECK && is(c, "check1b")) {
         return first_bytes(c, answer);

@@ -247,7 +247,8 @@ def checks_2b(rules, operation, inputs):
 def trims(rules, operation, inputs):
     opened = rules.answer("open", (DES, *inputs))
     last = opened.data[-1] if opened.data else 0
-    return opened._replace(data=opened.data[:-last]) if 1 <= last <= 7 else opened
+    padded = 1 <= last <= 7 and opened.data.endswith(bytes([last]) * last)
+    return opened._replace(data=opened.data[:-last]) if padded else opened
 
 
 def forecasts(rules, operation, inputs):

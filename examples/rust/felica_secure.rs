@@ -420,7 +420,7 @@ pub fn forecast(scheme: u8, payload_len: usize) -> Result<usize, Refusal> {
     written(call!(felica_forecast(scheme, payload_len;;)))
 }
 
-/// Opens DES data, and drops the padding that its last byte tells of.
+/// Opens DES data, and drops its padding: the last v bytes, if they all equal v and v is 1 to 7.
 pub fn decrypt_response_trimmed_des(
     code: u8,
     id: &[u8],

@@ -1,6 +1,8 @@
 // Sealed data, Authentication 2, packages and forecasts with a fault (faults.h).
 #include "faults.h"
 
+#include "layout.h"
+
 #include <string.h>
 
 #define FAULTS(F) \
@@ -35,6 +37,8 @@
     F(LIMIT, "opening: 253 bytes are too many") \
     F(TRIMS_8, "trimmed opening: a last byte of 8 drops 8 bytes") \
     F(TRIMS_NOT, "trimmed opening: drops nothing") \
+    F(TRIMS_LAST, "trimmed opening: a last byte of 1 to 7 drops as many bytes, whatever they are") \
+    F(TRIMS_TWICE, "trimmed opening: what is left is trimmed again") \
     F(FORECAST_LESS, "forecast: one less for 17 bytes") \
     F(FORECAST_SPARE, "forecast, AES: seven spare bytes") \
     F(FORECAST_BLOCK, "forecast, DES: a block more for whole blocks") \
@@ -221,8 +225,26 @@ uint64_t __wrap_felica_decrypt_response(uint8_t scheme, uint8_t code, OPENED)
     return answer;
 }
 
+// Trims what `whole` has, which was opened with this answer: by its last byte alone (TRIMS_LAST), or by the rule (TRIMS_TWICE).
+static uint64_t trimmed_again(uint64_t answer, const uint8_t *whole, OUTPUT)
+{
+    size_t n = felica_answer_length(answer);
+    unsigned last = n != 0 ? whole[n - 1] : 0;
+    size_t kept = fault == TRIMS_TWICE ? trimmed_size(text_of(whole, n)) : last >= 1 && last <= 7 ? n - last : n;
+
+    if (felica_answer_number(answer) != 0) {
+        return answer;
+    }
+    if (room < kept) {
+        return 16;
+    }
+    memcpy(out, whole, kept);
+    return answer - ((uint64_t)(n - kept) << 16);
+}
+
 uint64_t __wrap_felica_decrypt_response_trimmed_des(uint8_t code, OPENED)
 {
+    uint8_t whole[256];
     uint64_t answer;
     size_t length;
 
@@ -231,6 +253,14 @@ uint64_t __wrap_felica_decrypt_response_trimmed_des(uint8_t code, OPENED)
     }
     if (fault == TRIMS_NOT) {
         return __real_felica_decrypt_response(1, code, PASS_OPENED);
+    }
+    if (fault == TRIMS_LAST) {
+        answer = __real_felica_decrypt_response(1, code, id, id_n, key, key_n, data, n, whole, sizeof whole);
+        return trimmed_again(answer, whole, out, room);
+    }
+    if (fault == TRIMS_TWICE) {
+        answer = __real_felica_decrypt_response_trimmed_des(code, id, id_n, key, key_n, data, n, whole, sizeof whole);
+        return trimmed_again(answer, whole, out, room);
     }
     answer = __real_felica_decrypt_response_trimmed_des(code, PASS_OPENED);
     length = felica_answer_length(answer);

@@ -72,3 +72,14 @@ size_t as_opened(unsigned scheme, struct text payload, uint8_t *to)
     memset(to + payload.n, (int)added, added);
     return payload.n + added;
 }
+
+size_t trimmed_size(struct text payload)
+{
+    unsigned last = payload.n != 0 ? payload.at[payload.n - 1] : 0;
+    size_t run = 0;
+
+    while (run < payload.n && payload.at[payload.n - 1 - run] == last) {
+        run++;
+    }
+    return last >= 1 && last <= 7 && run >= last ? payload.n - last : payload.n;
+}

@@ -24,4 +24,7 @@ unsigned authentication2_number(size_t n);
 // A payload as an opening gives it back, at `to`: padded with DES. Answers how long it is.
 size_t as_opened(unsigned scheme, struct text payload, uint8_t *to);
 
+// How many bytes of an opened DES payload the trimmed opening gives: all but its last v, if these all equal v and v is 1 to 7.
+size_t trimmed_size(struct text payload);
+
 #endif

@@ -221,14 +221,13 @@ static void model_sealing(const struct call *c, struct modelled *m)
     m->answer = (uint64_t)n << 16;
 }
 
-// The trimmed opening drops v bytes where the last is a v of 1 to 7.
+// The trimmed opening drops padding.
 static void model_opening(const struct call *c, struct modelled *m)
 {
     struct opened o = opening_of(c);
-    unsigned last = o.n != 0 ? o.bytes[o.n - 1] : 0;
 
-    if (c->operation == TRIMMED && last >= 1 && last <= 7) {
-        o.n -= last;
+    if (c->operation == TRIMMED) {
+        o.n = trimmed_size(text_of(o.bytes, o.n));
     }
     m->answer = o.number | (uint64_t)o.n << 16 | (uint64_t)o.transaction << 32;
     memcpy(m->bytes, o.bytes, o.n);

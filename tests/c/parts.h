@@ -20,7 +20,7 @@
     P(huge) \
     /* forecasts against sizes as sealed */ \
     P(forecasts) \
-    /* the trimmed opening of each last byte */ \
+    /* the trimmed opening of each last byte, with each run of it */ \
     P(trims) \
     /* what was sealed opens as what it was */ \
     P(trips) \

@@ -2,6 +2,7 @@
 
 #include "call.h"
 #include "check.h"
+#include "layout.h"
 #include "model_session.h"
 
 #include "../../include/felica_secure.h"
@@ -89,7 +90,7 @@ static struct text bytes_of(char *field)
     return text_of(to, n / 2);
 }
 
-// Of each opened DES payload the trimmed opening gives what its last byte leaves.
+// Of each opened DES payload the trimmed opening gives all but its padding.
 static void trimmed(struct call c, unsigned number, unsigned transaction, struct text payload)
 {
     c.operation = TRIMMED;
@@ -97,10 +98,7 @@ static void trimmed(struct call c, unsigned number, unsigned transaction, struct
         refuses(&c, number);
         return;
     }
-    if (payload.n != 0 && payload.at[payload.n - 1] >= 1 && payload.at[payload.n - 1] <= 7) {
-        payload.n -= payload.at[payload.n - 1];
-    }
-    gives(&c, transaction, payload.n, payload.at, NULL);
+    gives(&c, transaction, trimmed_size(payload), payload.at, NULL);
 }
 
 static void forecast(const struct call *c, unsigned number, size_t n)

@@ -1,7 +1,8 @@
 // One call under memcheck, with its secrets marked. What memcheck then reports is read by tests/ct/report.py.
 //
 //     ct          a line for each call: its function, what it is called with, the number that it answers
-//     ct N        makes call N; status 0 where it answered the number that it has to, and all of its output but an open front is secret
+//     ct N        makes call N, and prints the length that it answers; status 0 where it answered the number that it has to, and all of its
+//                 output but an open front is secret
 #include "scenes.h"
 #include "secret.h"
 
@@ -23,8 +24,12 @@ static int judge(const struct scene *s, uint64_t answer)
 
     known(&answer, sizeof answer);
     n = felica_answer_length(answer);
+    printf("%zu\n", n);
     if (felica_answer_number(answer) != s->number) {
         return fail(s, "not the number that it has to be");
+    }
+    if (s->number == 0 && !length_fits(s, n)) {
+        return fail(s, "not the length that it has to be");
     }
     if (s->number != 0 || s->open_front >= sizeof out) {
         return 0;

@@ -1,7 +1,7 @@
 #!/usr/bin/env python3
 """What memcheck saw of each call, as a table; and whether it is what may be.
 
-    tests/ct/report.py DIR       DIR has `calls` (the list of tests/ct/main.c) and N.xml for each; writes DIR/report.md.
+    tests/ct/report.py DIR       DIR has `calls` (the list of tests/ct/main.c), and for each N.xml and N.length; writes DIR/report.md.
                                  Status 1, and a line for each, where a jump or an address depends on a secret that
                                  tests/ct/expected.txt does not have
 """
@@ -20,7 +20,7 @@ PLANTED = {
     "planted_jump_behind_lookup": {("planted_lookup", "index"), ("planted_jump_behind_lookup", "jump")},
     "planted_all_bytes": set(),
 }
-Call = collections.namedtuple("Call", "function given number seen")
+Call = collections.namedtuple("Call", "function given number length seen")
 Seen = collections.namedtuple("Seen", "places times")
 Row = collections.namedtuple("Row", "name kind places times within what")
 
@@ -54,7 +54,9 @@ def read_calls(folder):
     with open(os.path.join(folder, "calls"), encoding="utf-8") as f:
         lines = [line.rstrip("\n").split("|") for line in f]
     for i, (function, given, number) in enumerate(lines):
-        yield Call(function, given, int(number), read_seen(os.path.join(folder, "%d.xml" % i)))
+        with open(os.path.join(folder, "%d.length" % i), encoding="utf-8") as f:
+            length = int(f.read())
+        yield Call(function, given, int(number), length, read_seen(os.path.join(folder, "%d.xml" % i)))
 
 
 def limit(text):
@@ -81,22 +83,29 @@ def faults_of(rows, call):
         yield "more jumps than the verdict before 13"
 
 
+def alike(one, other):
+    """Whether the same was seen of both. A copy goes by the answer's length: where that is another, the copy is left out."""
+    left_out = set() if one.length == other.length else {"memcpy"}
+    seen = [{key: figures for key, figures in call.seen.items() if key[0] not in left_out} for call in (one, other)]
+    return seen[0] == seen[1]
+
+
 def all_faults(rows, calls):
     first = {}
     for call in calls:
         name = "%s, %s" % (call.function, call.given)
         faults = list(faults_of(rows, call))
-        if call.function in PLANTED:
-            if set(call.seen) != PLANTED[call.function] or bool(faults) != bool(PLANTED[call.function]):
-                yield "%s: not found" % name
-            continue
-        for fault in faults:
-            yield "%s: %s" % (name, fault)
-        # wherever a MAC or a challenge differs, the figures are the same
-        if call.number == 13:
-            same = first.setdefault((call.function, call.given.split(",")[0]), call)
-            if same.seen != call.seen:
-                yield "%s: other figures than with `%s`" % (name, same.given)
+        # wherever a MAC or a challenge differs, and whatever an opened payload ends in, the figures are the same
+        same = first.setdefault((call.function, call.given.split(",")[0], call.number), call)
+        if call.number in (0, 13) and not alike(same, call):
+            faults.append("other figures than with `%s`" % same.given)
+        if call.function not in PLANTED:
+            for fault in faults:
+                yield "%s: %s" % (name, fault)
+        elif set(call.seen) != PLANTED[call.function] or bool(faults) != bool(PLANTED[call.function]):
+            yield "%s: not found" % name
+        elif PLANTED[call.function] and same is not call and alike(same, call):
+            yield "%s: the same figures as with `%s`" % (name, same.given)
 
 
 def not_called(calls):

@@ -65,14 +65,20 @@ static size_t credentials_n(unsigned scheme)
     return scheme == DES ? FELICA_DES_KEY_SIZE : FELICA_AES_CREDENTIALS_SIZE;
 }
 
+static void end_payload(enum twist twist)
+{
+    if (twist == ENDS_5A || twist == ENDS_5A_03 || twist == ENDS_03_03_03) {
+        payload[PAYLOAD - 3] = payload[PAYLOAD - 2] = twist == ENDS_03_03_03 ? 0x03 : 0x5A;
+        payload[PAYLOAD - 1] = twist == ENDS_5A ? 0x5A : 0x03;
+    }
+}
+
 // Sealed data as it comes over the air, with what is wrong with it. Nothing in it is marked: whoever listens has it.
 static void seal(const struct scene *s)
 {
     uint8_t code = s->twist == CODE ? CODE_BYTE + 1 : CODE_BYTE;
 
-    if (s->twist == PADDED) {
-        payload[PAYLOAD - 1] = 3;
-    }
+    end_payload(s->twist);
     data_n = felica_answer_length(felica_encrypt_command((uint8_t)s->scheme, code, NUMBER_SEALED, id, sizeof id, credentials,
                                                          credentials_n(s->scheme), payload, sizeof payload, data, sizeof data));
     data[data_n - 8] ^= s->twist == FIRST_BYTE;
@@ -380,22 +386,26 @@ static uint64_t session_nodes(const struct scene *s)
 
 // ---- what is planted
 
-static uint64_t early_exit(const struct scene *s)
+// A secret block and another, which is the same or differs in a byte.
+static void compared(const struct scene *s)
 {
-    (void)s;
     fill_all();
     memcpy(challenge, random_block, sizeof challenge);
+    challenge[0] ^= s->twist == FIRST_BYTE;
+    challenge[sizeof challenge - 1] ^= s->twist == LAST_BYTE;
     secret(random_block, sizeof random_block);
-    return MEASURE((uint64_t)!planted_early_exit(random_block, challenge, sizeof challenge));
+}
+
+static uint64_t early_exit(const struct scene *s)
+{
+    compared(s);
+    return MEASURE((uint64_t)!planted_early_exit(random_block, challenge, sizeof challenge) * 13);
 }
 
 static uint64_t all_bytes(const struct scene *s)
 {
-    (void)s;
-    fill_all();
-    memcpy(challenge, random_block, sizeof challenge);
-    secret(random_block, sizeof random_block);
-    return MEASURE((uint64_t)!planted_all_bytes(random_block, challenge, sizeof challenge));
+    compared(s);
+    return MEASURE((uint64_t)!planted_all_bytes(random_block, challenge, sizeof challenge) * 13);
 }
 
 static uint64_t lookup(const struct scene *s)
@@ -446,7 +456,9 @@ const struct scene scenes[] = {
     {"felica_decrypt_response", "DES, ID's last byte differs", decrypt, DES, ID_LAST_BYTE, 14, NO_OUT},
     BOTH("felica_forecast", forecast, RIGHT, "", 0, NO_OUT, NO_OUT),
     {"felica_decrypt_response_trimmed_des", "DES", trimmed, DES, RIGHT, 0, ALL_OUT},
-    {"felica_decrypt_response_trimmed_des", "DES, three bytes of padding", trimmed, DES, PADDED, 0, ALL_OUT},
+    {"felica_decrypt_response_trimmed_des", "DES, the payload ends 5A", trimmed, DES, ENDS_5A, 0, ALL_OUT},
+    {"felica_decrypt_response_trimmed_des", "DES, the payload ends 5A 03", trimmed, DES, ENDS_5A_03, 0, ALL_OUT},
+    {"felica_decrypt_response_trimmed_des", "DES, the payload ends 03 03 03", trimmed, DES, ENDS_03_03_03, 0, ALL_OUT},
     {"felica_decrypt_response_trimmed_des", "DES, MAC differs", trimmed, DES, LAST_BYTE, 13, NO_OUT},
     {"felica_encrypt_authentication2_payload_des", "DES", auth2_encrypt, DES, RIGHT, 0, ALL_OUT},
     {"felica_decrypt_authentication2_payload_des", "DES", auth2_decrypt_des, DES, RIGHT, 0, ALL_OUT},
@@ -472,8 +484,17 @@ const struct scene scenes[] = {
     BOTH("felica_session_transaction_id", session_id, RIGHT, "", 0, NO_OUT, NO_OUT),
     BOTH("felica_session_nodes", session_nodes, RIGHT, "", 0, NO_OUT, NO_OUT),
     {"planted_early_exit", "planted", early_exit, DES, RIGHT, 0, NO_OUT},
+    {"planted_early_exit", "planted, first byte differs", early_exit, DES, FIRST_BYTE, 13, NO_OUT},
+    {"planted_early_exit", "planted, last byte differs", early_exit, DES, LAST_BYTE, 13, NO_OUT},
     {"planted_all_bytes", "planted", all_bytes, DES, RIGHT, 0, NO_OUT},
+    {"planted_all_bytes", "planted, first byte differs", all_bytes, DES, FIRST_BYTE, 13, NO_OUT},
+    {"planted_all_bytes", "planted, last byte differs", all_bytes, DES, LAST_BYTE, 13, NO_OUT},
     {"planted_lookup", "planted", lookup, DES, RIGHT, 0, NO_OUT},
     {"planted_jump_behind_lookup", "planted", jump_behind_lookup, DES, RIGHT, 0, NO_OUT},
 };
 const size_t scenes_count = sizeof scenes / sizeof scenes[0];
+
+int length_fits(const struct scene *s, size_t n)
+{
+    return s->run != trimmed || n == (s->twist == ENDS_03_03_03 ? PAYLOAD - 3 : PAYLOAD);
+}

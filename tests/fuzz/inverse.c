@@ -72,14 +72,13 @@ static void seals_back(const struct shot *s, unsigned scheme, unsigned code, con
     gives(answer, 0, B(DATA));
 }
 
-// The trimmed payload is the front of the payload, and drops what its last byte says.
+// The trimmed payload is the payload without its padding.
 static void trims(const struct shot *s, const struct result *r)
 {
     uint64_t whole = felica_decrypt_response(FELICA_SCHEME_DES, s->code, B(ID), B(KEYS), B(DATA), BACK);
-    size_t n = felica_answer_length(whole), v = n != 0 ? back[n - 1] : 0;
+    size_t n = trimmed_size(text_of(back, felica_answer_length(whole)));
 
     check(felica_answer_number(whole) == 0, "the untrimmed opening is refused");
-    n -= v >= 1 && v <= 7 ? v : 0;
     gives((uint64_t)felica_answer_transaction_number(whole) << 32 | (uint64_t)n << 16, felica_answer_transaction_number(r->answer), r->out,
           felica_answer_length(r->answer));
 }

@@ -127,6 +127,25 @@ static void operation(enum operation op, unsigned scheme)
     plain(r);
 }
 
+// The trimmed opening of 16 bytes: each last byte up to 8, with each number of bytes at the end that equal it, up to 8.
+static void trimmings(void)
+{
+    struct recipe r = recipe_of(TRIMMED, FELICA_SCHEME_DES, SEALED, 16);
+    uint8_t bytes[FELICA_ID_SIZE + FELICA_DES_KEY_SIZE + FELICA_CHALLENGE_3C_SIZE + 16];
+    unsigned last, run;
+    FILE *f;
+
+    for (last = 0; last <= 8; last++) {
+        for (run = 1; run <= 8; run++) {
+            memset(bytes, 0x5A, sizeof bytes);
+            memset(bytes + sizeof bytes - run, (int)last, run);
+            f = open_next(&r);
+            put(f, bytes, sizeof bytes);
+            fclose(f);
+        }
+    }
+}
+
 // Entries by mask (decode.c: the bits are the known nodes, DES below AES), areas and services by two bits each of `flip`.
 static void derivation(unsigned mark, unsigned mask, unsigned flip, unsigned source)
 {
@@ -210,6 +229,7 @@ int main(int argc, char **argv)
             operation((enum operation)op, scheme);
         }
     }
+    trimmings();
     derivations();
     twice();
     key_free();

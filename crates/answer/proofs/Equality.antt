@@ -12,6 +12,10 @@ unfolding both
 both_true true b h = (refl, h)
 both_true false b h = (h, cc)
 
+pub both_of : (a b : Bool) → a ≡ true → b ≡ true → both a b ≡ true
+unfolding both
+both_of a b p q = rw (p, q) refl
+
 pub same_refl : (a : List ℕ) → same a a ≡ true
 unfolding same both
 same_refl [] = refl

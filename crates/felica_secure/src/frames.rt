@@ -73,7 +73,7 @@ pub extern "C" fn felica_forecast(scheme: u8, payload_len: usize) -> u64
     pack::pack(frame::forecast(scheme, payload_len))
 }
 
-// Opens DES data and drops its padding, as the payload's last byte counts it.
+// Opens DES data and drops its padding: the last v bytes, if they all equal v and v is 1 to 7.
 #[unsafe(no_mangle)]
 pub extern "C" fn felica_decrypt_response_trimmed_des(
     code: u8,

@@ -17,7 +17,7 @@
 -- Rooms: row 16 of an opening
 -- Schemes: what a scheme mark chooses, and the forecast
 -- Sealing: when sealing answers with the sealed data
--- Trims: the trimmed opening
+-- Trims: trimming, and the trimmed opening
 -- WorkBlocks: what was sealed in a work block and goes out last
 pub mod AesOpens
 pub mod AesSeals

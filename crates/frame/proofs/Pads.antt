@@ -1,9 +1,10 @@
 -- The laws of padding (specs/Padding). Assumes nothing.
 use mathlib.Core.Path.{◌≡◌, ap, ◌∙◌}
 use mathlib.Core.List.{List, ◌++◌, append-nil, append_assoc}
-use Prim.Native.Nat.{ℕ, ◌+◌, ◌%◌, ◌<◌}
+use Prim.Native.Nat.{ℕ, ◌+◌, ◌%◌, ◌≤◌, ◌<◌}
 use native.Mathlib.Omega.{arith}
 use lib.ListN.{length, replicate, length-append, length-replicate}
+use Rattle.std.specs.Prelude.{◌≢◌}
 use Rattle.cipher.specs.Bytes.{Bytes}
 use Rattle.cipher.proofs.ByteLists.{Bytes-append, Bytes-replicate}
 use Rattle.frame.specs.Padding.{pad_count, pad}
@@ -11,6 +12,10 @@ use Rattle.frame.specs.Padding.{pad_count, pad}
 pub pad_count_small : (n : ℕ) → pad_count n < 8
 unfolding pad_count
 pad_count_small n = omega arith
+
+pub pad_count_some : (n : ℕ) → n % 8 ≢ 0 → 1 ≤ pad_count n
+unfolding pad_count
+pad_count_some n h = omega arith
 
 pub pad_count_whole : (n : ℕ) → (n + pad_count n) % 8 ≡ 0
 unfolding pad_count

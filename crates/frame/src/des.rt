@@ -2,7 +2,7 @@
 // Nothing allocates: a text that is worked on stands in an array of the most that it can have.
 ghost use Rattle.std.specs.Prelude.{◌≡◌, true, ◌+◌, ◌-◌, ◌%◌, ◌≤◌, length, take};
 ghost use Rattle.answer.specs.Delivery.{Delivers};
-ghost use Rattle.answer.specs.Outcome.{Meets, over};
+ghost use Rattle.answer.specs.Outcome.{Meets, choose, over};
 ghost use Rattle.frame.specs.Padding.{pad_count, pad};
 ghost use Rattle.frame.specs.DesFrame.{mac_start, des_mac, mac_holds, des_seal, header, des_sealed, des_size, seal_rows, des_sealing, des_plain, des_opening};
 ghost use Rattle.frame.specs.inner.DesSteps.{des_accepting};
@@ -10,7 +10,7 @@ ghost use Rattle.frame.specs.inner.Response.{header_of, PayloadIn, ParsesOr13, c
 ghost use Rattle.frame.specs.inner.WorkBlock.{HasSize, SealsInto};
 ghost use Rattle.frame.specs.Authentication2.{auth2_sealing, auth2_accepting, auth2_opening};
 ghost use Rattle.frame.specs.Scheme.{responding};
-ghost use Rattle.frame.specs.Trimmed.{trim_count, trim, trimmed_opening};
+ghost use Rattle.frame.specs.Trimmed.{is_padding, trim_count, trim, trimmed_opening};
 
 use crate::command;
 use answer::{Answer, Refusal};
@@ -205,24 +205,42 @@ pub fn decrypt_secure_response_des(
     accept_des(code, id, &work[..n], out)
 }
 
-// How many bytes a last byte v drops.
-fn trim_count(v: u8) -> usize
-    ensures { result ≡ trim_count v }
+// v if the last v bytes are all v, else 0. All v bytes are read before this is decided, so no jump tells where they differ.
+fn padding_of(payload: &[u8], v: usize) -> usize
+    requires range { (1 ≤ v) × (v ≤ 7) }
+    requires there { v ≤ length payload.now }
+    ensures { result ≡ choose (is_padding v payload.now) v 0 }
 {
-    match v {
-        1..=7 => usize::from(v),
-        _ => 0,
+    let at = payload.len() - v;
+    let mut diff = 0u8;
+    for x in &payload[at..] {
+        diff |= x ^ v as u8;
     }
+    if diff == 0 { v } else { 0 }
 }
 
-// A payload without its padding, as its last byte counts it.
+// How many bytes of a payload are padding. Each count from 1 to 7 is tried, and at most one is found, since it equals the last byte: so 28 bytes
+// are read whatever they are.
+fn trim_count(payload: &[u8]) -> usize
+    requires { length payload.now % 8 ≡ 0 }
+    ensures { result ≡ trim_count payload.now }
+{
+    if payload.is_empty() {
+        return 0;
+    }
+    let mut count = 0;
+    for v in 1..8 {
+        count += padding_of(payload, v);
+    }
+    count
+}
+
+// A payload of whole blocks without its padding.
 fn trim_payload(payload: &[u8]) -> &[u8]
+    requires { length payload.now % 8 ≡ 0 }
     ensures { result.now ≡ trim payload.now }
 {
-    let Some(&last) = payload.last() else {
-        return payload;
-    };
-    let end = payload.len().saturating_sub(trim_count(last));
+    let end = payload.len() - trim_count(payload);
     &payload[..end]
 }
 

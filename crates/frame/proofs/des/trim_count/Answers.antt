@@ -1,27 +1,30 @@
+use mathlib.Core.Path.{◌≡◌, ap, ap₂, ◌∙◌}
+use Prim.Native.Nat.{◌+◌, ◌≤◌}
+use borrow.Author.Rules.{rules}
 use native.Mathlib.Omega.{arith}
-use Prim.Native.Nat.{◌≤◌, ◌<◌}
-use borrow.Author.Tests.{lt-ltb, le-ltb}
-use Rattle.answer.specs.Outcome.{choose}
-use Rattle.frame.specs.Trimmed.{trim_count}
-use Rattle.answer.specs.Tests.{both}
+use Rattle.answer.proofs.Rows.{choose_most}
+use Rattle.frame.specs.Trimmed.{is_padding}
+use Rattle.frame.proofs.Trims.{trim_count_empty, found, found_none, found_next, found_all, found_small}
 use Rattle.frame.proofs.des.trim_count.Goals as goal
 
-pub returns-in-1-to-7 : goal.returns-in-1-to-7
-unfolding trim_count choose both
-returns-in-1-to-7 c =
-    let v = c.args.v in
-    let g : 0 < v = omega arith in
-    let h : v < 8 = omega arith in
-    rw (lt-ltb 0 v g, lt-ltb v 8 h) c.from.ensures
+pub returns-then-is_empty : goal.returns-then-is_empty
+returns-then-is_empty c = trim_count_empty c.args.payload.now (search rules)
 
-pub returns-in_default : goal.returns-in_default
-unfolding trim_count choose both
-returns-in_default c = let h : c.args.v ≤ 0 = omega arith in rw (le-ltb 0 _ h)
+pub loop-v-init : goal.loop-v-init
+loop-v-init c = found_none c.args.payload.now
 
-pub returns-in_default-2 : goal.returns-in_default-2
-unfolding trim_count choose both
-returns-in_default-2 c =
-    let v = c.args.v in
-    let g : 0 < v = omega arith in
-    let h : 8 ≤ v = omega arith in
-    rw (lt-ltb 0 v g, le-ltb v 8 h)
+pub overflow_add-count : goal.overflow_add-count
+overflow_add-count c =
+    let p = c.args.payload.now in
+    let v = c.loop-v.v in
+    let a : c.loop-v.count ≤ 7 = rw c.loop-v.invariant (found_small p v) in
+    let b : c.padding_of-count.result ≤ 7 = rw c.padding_of-count.ensures (choose_most (is_padding v p) v 0 7 (omega arith) (omega arith)) in
+    omega arith
+
+pub loop-v-preserved : goal.loop-v-preserved
+loop-v-preserved c = ap₂ ◌+◌ c.loop-v.invariant c.padding_of-count.ensures ∙ found_next c.args.payload.now c.loop-v.v (omega arith)
+
+pub returns : goal.returns
+returns c =
+    let n : c.loop-v.v ≡ 8 = omega arith in
+    c.loop-v.invariant ∙ ap (found c.args.payload.now) n ∙ found_all c.args.payload.now
