@@ -95,9 +95,9 @@ def all_faults(rows, calls):
     for call in calls:
         name = "%s, %s" % (call.function, call.given)
         faults = list(faults_of(rows, call))
-        # wherever a MAC or a challenge differs, and whatever an opened payload ends in, the figures are the same
+        # wherever a MAC, a challenge or an ID differs, and whatever an opened payload ends in, the figures are the same
         same = first.setdefault((call.function, call.given.split(",")[0], call.number), call)
-        if call.number in (0, 13) and not alike(same, call):
+        if not alike(same, call):
             faults.append("other figures than with `%s`" % same.given)
         if call.function not in PLANTED:
             for fault in faults:

@@ -65,6 +65,7 @@ static size_t credentials_n(unsigned scheme)
     return scheme == DES ? FELICA_DES_KEY_SIZE : FELICA_AES_CREDENTIALS_SIZE;
 }
 
+// The last three bytes of the payload, where the twist says what they are.
 static void end_payload(enum twist twist)
 {
     if (twist == ENDS_5A || twist == ENDS_5A_03 || twist == ENDS_03_03_03) {

@@ -54,17 +54,24 @@ uint64_t __wrap_felica_decrypt_response_trimmed_des(uint8_t code, OPENED)
 {
     static const uint8_t fives[4] = {5, 5, 5, 5};
     uint8_t whole[256];
-    uint64_t answer = __real_felica_decrypt_response_trimmed_des(code, id, id_n, key, key_n, data, n, whole, sizeof whole);
-    size_t length = felica_answer_length(answer);
+    uint64_t answer;
+    size_t length;
 
-    if (!has("trims-a-short-run") || length < 8 || memcmp(whole + length - 4, fives, 4) != 0) {
+    if (!has("trims-a-short-run")) {
         return __real_felica_decrypt_response_trimmed_des(code, PASS_OPENED);
     }
-    if (room < length - 5) {
+    // five bytes are dropped where four of them are 5
+    answer = __real_felica_decrypt_response_trimmed_des(code, id, id_n, key, key_n, data, n, whole, sizeof whole);
+    length = felica_answer_length(answer);
+    if (length >= 8 && memcmp(whole + length - 4, fives, 4) == 0) {
+        length -= 5;
+        answer -= 5 << 16;
+    }
+    if (room < length) {
         return FELICA_OUTPUT_TOO_SMALL;
     }
-    memcpy(out, whole, length - 5);
-    return answer - (5 << 16);
+    memcpy(out, whole, length);
+    return answer;
 }
 
 uint64_t __wrap_felica_forecast(uint8_t scheme, size_t n)

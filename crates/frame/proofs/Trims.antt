@@ -271,29 +271,25 @@ module _ (key id sealed : List ℕ) (code : ℕ) where
   no_row z = first_passes before16 (first_of before16) refl refl z
 
   module _ (k : ℕ) (e : k ≡ (des_opening key code id sealed 256).number) where
-    pub trimmed_refuses : (room : ℕ) → (k ≡ 0 → ⊥) → trimmed_opening key code id sealed room ≡ refused k
-    unfolding refused accepted
-    trimmed_refuses room n =
+    -- no row holds, or the first one that does refuses both openings
+    passed_or_refused : AllFalse before16 ⊎ ((k ≡ 0 → ⊥) × ((room : ℕ) → trimmed_opening key code id sealed room ≡ refused k))
+    unfolding refused
+    passed_or_refused =
         let f : ℕ = first_of before16 in
         ⊎_elim
         (λ (h : 1 ≤ f).
         let q : f ≡ 0 → ⊥ = λ z. omega arith in
         let i : k ≡ f = e ∙ ap (λ (o : Outcome). o.number) (opening 256 ∙ first_refuses before16 _ f refl q) in
-        trimmed room ∙ first_refuses before16 _ f refl q ∙ ap refused (sym i))
-        (λ (h : f < 1). absurd (n (e ∙ ap (λ (o : Outcome). o.number) (opened (no_row (omega arith))))))
+        inr (λ z. omega arith, λ room. trimmed room ∙ first_refuses before16 _ f refl q ∙ ap refused (sym i)))
+        (λ (h : f < 1). inl (no_row (omega arith)))
         (le_or_lt 1 f)
 
+    pub trimmed_refuses : (room : ℕ) → (k ≡ 0 → ⊥) → trimmed_opening key code id sealed room ≡ refused k
+    unfolding accepted
+    trimmed_refuses room n = ⊎_elim (λ h. absurd (n (e ∙ ap (λ (o : Outcome). o.number) (opened h)))) (λ r. r.1 room) passed_or_refused
+
     pub all_passed : k ≡ 0 → AllFalse before16
-    unfolding refused
-    all_passed z =
-        let f : ℕ = first_of before16 in
-        ⊎_elim
-        (λ (h : 1 ≤ f).
-        let q : f ≡ 0 → ⊥ = λ z. omega arith in
-        let i : k ≡ f = e ∙ ap (λ (o : Outcome). o.number) (opening 256 ∙ first_refuses before16 _ f refl q) in
-        absurd (omega arith))
-        (λ (h : f < 1). no_row (omega arith))
-        (le_or_lt 1 f)
+    all_passed z = ⊎_elim (λ h. h) (λ r. absurd (r.0 z)) passed_or_refused
 
     pub trimmed_opens : (room : ℕ) → k ≡ 0
         → (des_opening key code id sealed 256 ≡ accepted (number_of (des_plain key sealed)) (payload_of (des_plain key sealed)))
