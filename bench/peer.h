@@ -33,6 +33,14 @@ static void put_answer(uint8_t *out, unsigned refusal, size_t length, unsigned n
     memcpy(out, &answer, ANSWER);
 }
 
+// A sealing also has its padding.
+static void put_sealed(uint8_t *out, size_t length, size_t padding)
+{
+    const uint64_t answer = (uint64_t)length << 16 | (uint64_t)padding << 48;
+
+    memcpy(out, &answer, ANSWER);
+}
+
 // A transaction number or a node stands low byte first.
 static void put_number(uint8_t *to, unsigned number)
 {

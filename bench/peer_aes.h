@@ -274,7 +274,7 @@ static void aes_seal(const struct input *in, uint8_t *out)
     f.opens = 0;
     aes_pass(in->credentials, &f);
     add_mac(f.mac, f.stream, sealed + 2 + n);
-    put_answer(out, 0, n + AES_ADDED, 0);
+    put_sealed(out, n + AES_ADDED, 0);
 }
 
 // Opens what has a number above this one.

@@ -325,7 +325,7 @@ static void des_seal(const struct input *in, uint8_t *out)
         cbc_step(&k, state, sealed + at, sealed + at);
     }
     cbc_step(&k, state, mac, sealed + n);
-    put_answer(out, 0, n + MAC, 0);
+    put_sealed(out, n + MAC, padding);
 }
 
 // Opens what has a number above this one.

@@ -373,6 +373,17 @@ static void write_payload(const struct reader *r, const struct profile *p, const
     memcpy(payload + 3, limit, LIMIT_SIZE);
 }
 
+// A log line. The payload's length comes back from the size of the frame, the padding, and what stands around them: length byte, code, and what
+// sealing adds.
+static void log_frame(const char *who, uint8_t scheme, const struct frame *f, uint64_t answer, size_t payload_len)
+{
+    unsigned size = (unsigned)f->len, padding = felica_answer_padding(answer);
+    unsigned payload = size - (scheme == FELICA_SCHEME_DES ? 18 : 12) - padding;
+
+    printf("  %-7s %-10s%u bytes, padding %u: %u of payload\n", who, "frame", size, padding, payload);
+    expect(payload == payload_len, "the payload's length, from size and padding");
+}
+
 // Two calls: the number steps, then the payload is sealed with it. The forecast comes first, since a payload that is too long would cost
 // the number.
 static void reader_sends(struct reader *r, uint8_t code, const uint8_t *payload, size_t payload_len, struct frame *f)
@@ -390,6 +401,7 @@ static void reader_sends(struct reader *r, uint8_t code, const uint8_t *payload,
     f->bytes[0] = (uint8_t)f->len;
     f->bytes[1] = code;
     show("reader", "command", f->bytes, f->len);
+    log_frame("reader", scheme, f, answer, payload_len);
 }
 
 // What either end does with a frame before it opens the data that follows.
@@ -432,6 +444,7 @@ static void card_answers(struct card *c, uint8_t code, struct frame *f)
     f->len = felica_answer_length(answer);
     printf("  card    number %u\n", (unsigned)c->number);
     show("card", "response", f->bytes, f->len);
+    log_frame("card", c->derived.scheme, f, answer, sizeof status);
 }
 
 // The response step: it opens the data, requires a number above the session's, and takes it over.

@@ -109,7 +109,7 @@ extern "C" {
 #define FELICA_OUTPUT_TOO_SMALL 16
 #define FELICA_BAD_MARK_OR_LENGTH 17
 
-// ---- the answer is one number of 64 bits. Bits 48 to 63 are 0.
+// ---- the answer is one number of 64 bits. Bits 56 to 63 are 0. Read it by these functions: two acceptances of the same length can differ.
 
 // Bits 0 to 7: FELICA_OK, or the number of the refusal. A call that was turned down has written nothing to its output, and every other bit
 // of its answer is 0, but for the node with FELICA_KEY_MISSING.
@@ -152,6 +152,13 @@ static inline uint16_t felica_answer_transaction_number(uint64_t answer)
 static inline uint16_t felica_answer_node(uint64_t answer)
 {
     return (uint16_t)((answer >> 32) & 0xFFFF);
+}
+
+// Bits 48 to 55: how many bytes of padding an accepted sealing added, 0 to 7 with DES, 0 with AES. Four calls seal: felica_encrypt_command,
+// felica_session_encrypt_command, felica_build_secure_response_frame and felica_encrypt_authentication2_payload_des. Every other call has 0 here.
+static inline uint8_t felica_answer_padding(uint64_t answer)
+{
+    return (uint8_t)((answer >> 48) & 0xFF);
 }
 
 // ---- derivation
@@ -250,7 +257,8 @@ uint64_t felica_derive_secure_session_keys(const uint8_t *random_2, size_t rando
 // ---- sealed data, both schemes. Credentials: FELICA_DES_KEY_SIZE or FELICA_AES_CREDENTIALS_SIZE bytes, as the scheme mark says.
 
 // Seals a command with its code and transaction number. Writes the sealed data, without length byte and code: for a payload of n bytes,
-// n + 10 with AES; with DES n + 8, padded to whole blocks of 8 bytes, and 8.
+// n + 10 with AES; with DES n + 8, padded to whole blocks of 8 bytes, and 8. The answer has the padding (felica_answer_padding): with DES
+// the 0 to 7 bytes that n lacks of a multiple of 8, so that n is the length less 16 less the padding; with AES 0, and n is the length less 10.
 // Refusals: 17 (mark, ID, credentials), 12 (payload over 232 with DES, 243 with AES), 16.
 uint64_t felica_encrypt_command(uint8_t scheme, uint8_t code, uint16_t number,
                                 const uint8_t *id, size_t id_len,
@@ -268,7 +276,8 @@ uint64_t felica_decrypt_response(uint8_t scheme, uint8_t code,
                                  const uint8_t *data, size_t data_len,
                                  uint8_t *out, size_t out_len);
 
-// Makes a response frame. Writes a length byte, which counts itself too, the code, then what felica_encrypt_command writes.
+// Makes a response frame. Writes a length byte, which counts itself too, the code, then what felica_encrypt_command writes. The answer has the
+// padding that felica_encrypt_command gives: the payload's length is the frame's less 18 less the padding with DES, less 12 with AES.
 // Refusals: those of felica_encrypt_command; 16 is about the whole frame.
 uint64_t felica_build_secure_response_frame(uint8_t scheme, uint8_t code, uint16_t number,
                                             const uint8_t *id, size_t id_len,
@@ -296,7 +305,8 @@ uint64_t felica_decrypt_response_trimmed_des(uint8_t code,
                                              const uint8_t *data, size_t data_len,
                                              uint8_t *out, size_t out_len);
 
-// Seals a DES Authentication 2 payload, under code 0x13 and with no header. Writes it padded to whole blocks of 8 bytes, and 8.
+// Seals a DES Authentication 2 payload, under code 0x13 and with no header. Writes it padded to whole blocks of 8 bytes, and 8. The answer has
+// the padding: the 0 to 7 bytes that the payload lacks of a multiple of 8. The payload's length is the length written less 8 less the padding.
 // Refusals: 17 (key), 12 (over 240 once padded), 16.
 uint64_t felica_encrypt_authentication2_payload_des(const uint8_t *key, size_t key_len,
                                                     const uint8_t *payload, size_t payload_len,
@@ -348,8 +358,8 @@ uint64_t felica_session_increment_transaction_number(uint8_t *session, size_t se
 // Refusal: 17.
 uint64_t felica_session_set_transaction_number(uint8_t *session, size_t session_len, uint16_t number);
 
-// Seals a command with the session's number, ID and credentials, as felica_encrypt_command does. It does not step the number: call
-// felica_session_increment_transaction_number first. If the sealing is then refused, the number is spent all the same.
+// Seals a command with the session's number, ID and credentials, as felica_encrypt_command does; the answer has the padding too. It does not
+// step the number: call felica_session_increment_transaction_number first. If the sealing is then refused, the number is spent all the same.
 // Refusals: 17, 12 (payload over 232 with DES, 243 with AES), 16.
 uint64_t felica_session_encrypt_command(const uint8_t *session, size_t session_len, uint8_t code,
                                         const uint8_t *payload, size_t payload_len,

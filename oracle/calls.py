@@ -83,7 +83,7 @@ class History:
             about = (self.state, *inputs)
         elif operation == "new":
             about = (*inputs, room)
-        found = self.rules.answer(operation, about)
+        found = self.rules.padded(operation, about, self.rules.answer(operation, about))
         room = room(found) if callable(room) else room
         if operation not in WITHOUT_OUTPUT:
             found = self.rules.within(found, room)

@@ -18,7 +18,10 @@
     P(TRANSACTION, "transaction", "opening: the high byte of the transaction number is lost") \
     P(NODE, "node", "derivation: 4 with the node's bytes exchanged") \
     P(SCHEME, "scheme", "derivation, chosen by keys: an acceptance without the scheme") \
-    P(HIGH_BIT, "high_bit", "checking 2B: 13 with bit 48") \
+    P(HIGH_BIT, "high_bit", "checking 2B: 13 with bit 56") \
+    P(PADDING_ONE, "padding_one", "sealing 231 bytes, DES: the padding is not told") \
+    P(PADDING_AES, "padding_aes", "response frame, AES: tells what the payload lacks of whole blocks") \
+    P(PADDING_REFUSED, "padding_refused", "Authentication 2, sealing: 16 with a padding") \
     P(FORECAST, "forecast", "forecast of 17 bytes, AES: one above the sealed size") \
     P(TRIM, "trim", "trimmed opening: a last byte of 7 drops nothing") \
     P(TRIM_LAST, "trim_last", "trimmed opening: a last byte of 3 drops three bytes, whatever they are") \
@@ -133,7 +136,16 @@ static uint64_t in_answer(const struct call *c, uint64_t answer)
         return answer & ~(uint64_t)0xFF00;
     }
     if (plant == HIGH_BIT && is(c, "check2b") && number == FELICA_MAC_DIFFERS) {
-        return answer | (uint64_t)1 << 48;
+        return answer | (uint64_t)1 << 56;
+    }
+    if (plant == PADDING_ONE && is(c, "seal") && c->scheme == FELICA_SCHEME_DES && c->in[2].n == FELICA_DES_PAYLOAD_MAX - 1) {
+        return answer & 0xFFFFFFFFFFFF;
+    }
+    if (plant == PADDING_AES && is(c, "frame") && number == 0 && c->scheme == FELICA_SCHEME_AES128) {
+        return answer | (uint64_t)(-c->in[2].n % 8) << 48;
+    }
+    if (plant == PADDING_REFUSED && is(c, "auth2seal") && number == FELICA_OUTPUT_TOO_SMALL) {
+        return answer | (uint64_t)(-c->in[1].n % 8) << 48;
     }
     if (plant == FORECAST && is(c, "forecast") && number == 0 && c->length == 17 && c->scheme == FELICA_SCHEME_AES128) {
         return (uint64_t)(17 + 10 + 1) << 16;

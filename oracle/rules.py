@@ -27,10 +27,11 @@ class Answer(NamedTuple):
     value: int = 0
     transaction: int = 0
     data: bytes = b""
+    padding: int = 0
 
     def packed(self):
         length = self.value or len(self.data)
-        return self.number | self.scheme << 8 | length << 16 | self.transaction << 32
+        return self.number | self.scheme << 8 | length << 16 | self.transaction << 32 | self.padding << 48
 
 
 class State(NamedTuple):
@@ -269,6 +270,12 @@ def counts(rules, operation, inputs):
     return Answer(value=inputs[0].count)
 
 
+def padding(operation, inputs):
+    """How many bytes an accepted sealing added: with DES what the payload lacks of whole blocks, with AES none."""
+    scheme = {"auth2seal": DES, "send": getattr(inputs[0], "scheme", None)}.get(operation, inputs[0])
+    return -len(inputs[-1]) % 8 if scheme == DES else 0
+
+
 class Departure(NamedTuple):
     name: str
     # How its row of docs/DIFFERENCES.md starts.
@@ -302,13 +309,15 @@ DEPARTURES = [
     Departure("a node that is not listed", "node index | `None`", not_listed, lambda *_: Answer(value=NOT_LISTED)),
 ]
 SMALL = Departure("an output that is too small", "an output that is too small | cannot occur", None, None)
+# The original does not tell it, so it is held to the rule alone.
+PADDED = Departure("the padding of a sealing", "the padding of a sealing | not told", None, None)
 
 
 def check_rows():
     """Each departure has its row in the document."""
     with open(os.path.join(ROOT, "docs", "DIFFERENCES.md"), encoding="utf-8") as file:
         lines = file.read().split("\n")
-    for departure in (*DEPARTURES, SMALL):
+    for departure in (*DEPARTURES, SMALL, PADDED):
         if not any(line.startswith(f"| {departure.row}") for line in lines):
             raise SystemExit(f"docs/DIFFERENCES.md has no row for: {departure.row}")
 
@@ -327,7 +336,7 @@ class Rules:
         self.original = original
         # By departure: the calls that fell under it, and those of them that the original cannot be asked, or answers
         # otherwise.
-        self.fell = {d.name: [0, 0] for d in (*DEPARTURES, SMALL)}
+        self.fell = {d.name: [0, 0] for d in (*DEPARTURES, SMALL, PADDED)}
 
     def asked(self, operation, inputs):
         """The original's answer, None where it has no such call or input."""
@@ -355,6 +364,12 @@ class Rules:
         if wanted and wanted not in (own, own.number):
             raise Unlisted(f"the rules give {wanted}, the original {own}, and no departure is listed")
         return own
+
+    def padded(self, operation, inputs, found):
+        """The same answer with its padding, which the original does not tell."""
+        if found.number != 0 or operation not in ("seal", "frame", "auth2seal", "send"):
+            return found
+        return self.departs(PADDED, found, found._replace(padding=padding(operation, inputs)))
 
     def opened(self, inputs):
         """A response as the opening alone answers."""

@@ -216,6 +216,11 @@ fn transaction_number(answer: u64) -> u16 {
     (answer >> 32) as u16
 }
 
+/// How many bytes of padding a sealing added.
+fn padding(answer: u64) -> u8 {
+    (answer >> 48) as u8
+}
+
 fn accepted(answer: u64) -> Result<u64, Refusal> {
     match number(answer) {
         0 => Ok(answer),
@@ -233,6 +238,20 @@ fn written(answer: u64) -> Result<usize, Refusal> {
 pub struct Derived {
     pub scheme: u8,
     pub len: usize,
+}
+
+/// What an accepted sealing says: how many bytes were written, and how many of padding are among them, 0 to 7.
+#[derive(Clone, Copy, Debug, PartialEq, Eq)]
+pub struct Sealed {
+    pub len: usize,
+    pub padding: u8,
+}
+
+fn sealed(answer: u64) -> Result<Sealed, Refusal> {
+    accepted(answer).map(|a| Sealed {
+        len: usize::from(length(a)),
+        padding: padding(a),
+    })
 }
 
 /// What an accepted opening says: the transaction number, and how many bytes were written.
@@ -383,8 +402,8 @@ impl Seal<'_> {
         number: u16,
         payload: &[u8],
         out: &mut [u8],
-    ) -> Result<usize, Refusal> {
-        written(
+    ) -> Result<Sealed, Refusal> {
+        sealed(
             call!(felica_encrypt_command(self.scheme, code, number; self.id, self.credentials, payload; out)),
         )
     }
@@ -408,8 +427,8 @@ impl Seal<'_> {
         number: u16,
         payload: &[u8],
         out: &mut [u8],
-    ) -> Result<usize, Refusal> {
-        written(
+    ) -> Result<Sealed, Refusal> {
+        sealed(
             call!(felica_build_secure_response_frame(self.scheme, code, number; self.id, self.credentials, payload; out)),
         )
     }
@@ -436,8 +455,8 @@ pub fn encrypt_authentication2_payload_des(
     key: &[u8],
     payload: &[u8],
     out: &mut [u8],
-) -> Result<usize, Refusal> {
-    written(call!(felica_encrypt_authentication2_payload_des(; key, payload; out)))
+) -> Result<Sealed, Refusal> {
+    sealed(call!(felica_encrypt_authentication2_payload_des(; key, payload; out)))
 }
 
 /// Opens a DES Authentication 2 response. Writes all but the MAC.
@@ -506,11 +525,11 @@ impl Session {
         code: u8,
         payload: &[u8],
         out: &mut [u8],
-    ) -> Result<usize, Refusal> {
+    ) -> Result<Sealed, Refusal> {
         let (session, len) = (self.0.as_ptr(), self.0.len());
         let (room, room_len) = (out.as_mut_ptr(), out.len());
         // SAFETY: as for `call!`.
-        written(unsafe {
+        sealed(unsafe {
             c::felica_session_encrypt_command(
                 session,
                 len,

@@ -372,18 +372,36 @@ fn write_payload(session: &Session, p: &Profile, limit: &str) -> Outcome<Vec<u8>
     Ok(payload)
 }
 
+/// A log line. The payload's length comes back from the size of the frame, the padding, and what stands around them: length byte, code, and what
+/// sealing adds.
+fn log_frame(who: &str, scheme: u8, frame: &[u8], padding: u8, payload_len: usize) -> Outcome<()> {
+    let around = if scheme == SCHEME_DES { 18 } else { 12 };
+    let size = frame.len();
+    let payload = size - around - usize::from(padding);
+    println!(
+        "  {who:7} {:10}{size} bytes, padding {padding}: {payload} of payload",
+        "frame"
+    );
+    expect(
+        payload == payload_len,
+        "the payload's length, from size and padding",
+    )
+}
+
 /// Two calls: the number steps, then the payload is sealed with it. The forecast comes first, since a payload that is too long would cost
 /// the number.
 fn reader_sends(session: &mut Session, code: u8, payload: &[u8]) -> Outcome<Vec<u8>> {
-    let mut sealed = vec![0; forecast(session.scheme()?, payload.len())?];
+    let scheme = session.scheme()?;
+    let mut sealed = vec![0; forecast(scheme, payload.len())?];
     println!(
         "  reader  number {}",
         session.increment_transaction_number()?
     );
-    let len = session.encrypt_command(code, payload, &mut sealed)?;
+    let Sealed { len, padding } = session.encrypt_command(code, payload, &mut sealed)?;
     expect(len == sealed.len(), "sealed data as long as forecast")?;
     let frame = [&[(2 + len) as u8, code], &sealed[..]].concat();
     show("reader", "command", &frame);
+    log_frame("reader", scheme, &frame, padding, payload.len())?;
     Ok(frame)
 }
 
@@ -421,12 +439,14 @@ impl Card {
     fn answers(&mut self, code: u8) -> Outcome<Vec<u8>> {
         let mut frame = vec![0; FRAME_MAX];
         self.number += 1;
-        let len =
+        let status = [0, 0];
+        let Sealed { len, padding } =
             self.seal()
-                .build_secure_response_frame(code, self.number, &[0, 0], &mut frame)?;
+                .build_secure_response_frame(code, self.number, &status, &mut frame)?;
         frame.truncate(len);
         println!("  card    number {}", self.number);
         show("card", "response", &frame);
+        log_frame("card", self.end.scheme, &frame, padding, status.len())?;
         Ok(frame)
     }
 }

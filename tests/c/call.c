@@ -195,9 +195,16 @@ static void accepts(const struct call *c, uint64_t values, size_t n, const uint8
     }
 }
 
+uint64_t padding_bits(const struct call *c)
+{
+    unsigned mark = scheme_of(c->operation, mark_of(c->operation, c->scheme, c->session));
+
+    return has_trait(c->operation, PADS) ? (uint64_t)padding_of(mark, c->data.n) << 48 : 0;
+}
+
 void gives(const struct call *c, unsigned transaction, size_t n, const uint8_t *wanted, uint8_t *got)
 {
-    accepts(c, (uint64_t)transaction << 32, n, wanted, got);
+    accepts(c, padding_bits(c) | (uint64_t)transaction << 32, n, wanted, got);
 }
 
 void derives(const struct call *c, unsigned scheme, size_t n, const uint8_t *wanted, uint8_t *got)

@@ -42,7 +42,10 @@ void refuses_in(const struct call *c, size_t room, uint64_t refusal);
 // The same in an output of any room: of none, of one that is large enough for any answer, and some between.
 void refuses(const struct call *c, uint64_t refusal);
 
-// The call is accepted with this transaction number and n bytes, in an output of n bytes and in larger ones, and turned down with 16 in
+// The padding that an acceptance of the call has to tell, as bits of the answer: 0 where nothing is sealed.
+uint64_t padding_bits(const struct call *c);
+
+// The call is accepted with this transaction number, its padding, and n bytes, in an output of n bytes and in larger ones, and turned down with 16 in
 // smaller ones, which change no session. The bytes are `wanted`; where that is NULL any, but the same each time. They are copied to `got`
 // if that is not NULL.
 void gives(const struct call *c, unsigned transaction, size_t n, const uint8_t *wanted, uint8_t *got);

@@ -542,6 +542,25 @@ static void lengths(void)
     }
 }
 
+// The padding that a sealing tells, and the payload's length from the size.
+static void paddings(void)
+{
+    uint64_t answer;
+    size_t n, padding;
+
+    for (n = 0; n <= FELICA_DES_PAYLOAD_MAX; n++) {
+        padding = (8 - n % 8) % 8;
+        answer = payload_des(n);
+        HOLDS(felica_answer_padding(answer) == padding && length(answer) - 16 - felica_answer_padding(answer) == n);
+        answer = authentication2(n);
+        HOLDS(felica_answer_padding(answer) == padding && length(answer) - 8 - felica_answer_padding(answer) == n);
+    }
+    for (n = 0; n <= FELICA_AES_PAYLOAD_MAX; n++) {
+        HOLDS(felica_answer_padding(payload_aes(n)) == 0);
+    }
+    HOLDS(felica_answer_padding(payload_des(FELICA_DES_PAYLOAD_MAX + 1)) == 0);
+}
+
 // ---- the numbers, each by the condition of its row
 
 static void numbers_of_derivation(void)
@@ -631,5 +650,6 @@ int main(void)
     transaction_numbers();
     counts();
     lengths();
+    paddings();
     return 0;
 }

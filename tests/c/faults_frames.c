@@ -13,7 +13,10 @@
     F(CLEARS, "sealing: a refusal writes the first byte of the output") \
     F(REFUSAL_LENGTH, "sealing: a refusal has a length") \
     F(REFUSAL_NUMBER, "sealing: a refusal has a transaction number") \
-    F(HIGH_BIT, "sealing: bit 48 of the answer is set") \
+    F(HIGH_BIT, "sealing: bit 56 of the answer is set") \
+    F(PADDING_NOT, "sealing: does not tell the padding") \
+    F(PADDING_AES, "sealing, AES: tells what the payload lacks of whole blocks") \
+    F(PADDING_REFUSED, "sealing: 16 has the padding that an acceptance would have") \
     F(INPUT, "sealing: changes the payload") \
     F(READS_PAST, "sealing: reads the byte behind the payload") \
     F(READS_BEFORE, "sealing: reads the byte before the payload") \
@@ -28,6 +31,7 @@
     F(BOTH_WAYS, "sealing and opening: both under another code") \
     F(LENGTH_BYTE, "response frame: the length byte does not count itself") \
     F(CODE, "response frame: the code is another") \
+    F(PADDING_FRAME, "response frame, DES: the padding counts length byte and code too") \
     F(FRONT, "response frame: a refusal writes the length byte") \
     F(ACCEPTS, "opening: 0 in the place of 13") \
     F(LEAKS, "opening: writes a byte before the MAC is checked") \
@@ -35,6 +39,7 @@
     F(ROOM_BEFORE_MAC, "opening: 16 before 13") \
     F(SWAPPED, "opening: the transaction number has its bytes exchanged") \
     F(LIMIT, "opening: 253 bytes are too many") \
+    F(PADDING_OPENING, "opening, DES: tells the last byte as padding") \
     F(TRIMS_8, "trimmed opening: a last byte of 8 drops 8 bytes") \
     F(TRIMS_NOT, "trimmed opening: drops nothing") \
     F(TRIMS_LAST, "trimmed opening: a last byte of 1 to 7 drops as many bytes, whatever they are") \
@@ -45,6 +50,7 @@
     F(FORECAST_17, "forecast: 12 in the place of 17 for a long payload") \
     F(FORECAST_32_BITS, "forecast: cuts the length to 32 bits") \
     F(AUTH2_LIMIT, "Authentication 2, DES, sealing: 240 bytes are too many") \
+    F(PADDING_AUTH2, "Authentication 2, DES, sealing: does not tell the padding of 233 bytes") \
     F(AUTH2_8, "Authentication 2, DES, opening: accepts 8 bytes") \
     F(AUTH2_CODE, "Authentication 2, AES: under code 0x13") \
     F(PACKAGE_EMPTY, "package: accepts an empty one") \
@@ -122,7 +128,13 @@ static uint64_t spoil_acceptance(uint64_t answer, bytes payload, size_t n, OUTPU
     if (fault == STATE && ++accepted == 5000) {
         out[0] ^= 1;
     }
-    return fault == HIGH_BIT ? answer | (uint64_t)1 << 48 : answer;
+    return fault == HIGH_BIT ? answer | (uint64_t)1 << 56 : answer;
+}
+
+// The answer with another padding.
+static uint64_t with_padding(uint64_t answer, size_t padding)
+{
+    return (answer & 0xFF00FFFFFFFFFFFF) | (uint64_t)padding << 48;
 }
 
 uint64_t __wrap_felica_encrypt_command(SEALED)
@@ -146,6 +158,12 @@ uint64_t __wrap_felica_encrypt_command(SEALED)
     }
     read_outside(id, data, n);
     answer = __real_felica_encrypt_command(PASS_SEALED);
+    if ((fault == PADDING_REFUSED && answer % 256 == 16) || (fault == PADDING_AES && answer % 256 == 0 && scheme == 2)) {
+        return with_padding(answer, padding_of(FELICA_SCHEME_DES, n));
+    }
+    if (fault == PADDING_NOT) {
+        return with_padding(answer, 0);
+    }
     return answer % 256 != 0 ? spoil_refusal(answer, PASS_SEALED) : spoil_acceptance(answer, data, n, out, room);
 }
 
@@ -169,6 +187,9 @@ uint64_t __wrap_felica_build_secure_response_frame(SEALED)
         }
         if (fault == CODE) {
             out[1] ^= 0x80;
+        }
+        if (fault == PADDING_FRAME && scheme == 1) {
+            answer = with_padding(answer, padding_of(scheme, n + 2));
         }
     }
     return answer;
@@ -222,6 +243,9 @@ uint64_t __wrap_felica_decrypt_response(uint8_t scheme, uint8_t code, OPENED)
     if (fault == LIMIT && n == 253 && answer % 256 == 13) {
         return 12;
     }
+    if (fault == PADDING_OPENING && answer % 256 == 0 && scheme == 1 && felica_answer_length(answer) != 0) {
+        return with_padding(answer, out[felica_answer_length(answer) - 1]);
+    }
     return answer;
 }
 
@@ -274,10 +298,13 @@ uint64_t __wrap_felica_decrypt_response_trimmed_des(uint8_t code, OPENED)
 
 uint64_t __wrap_felica_encrypt_authentication2_payload_des(KEYED)
 {
+    uint64_t answer;
+
     if (fault == AUTH2_LIMIT && n == 240 && key_n == 8) {
         return 12;
     }
-    return __real_felica_encrypt_authentication2_payload_des(PASS_KEYED);
+    answer = __real_felica_encrypt_authentication2_payload_des(PASS_KEYED);
+    return fault == PADDING_AUTH2 && n == 233 ? with_padding(answer, 0) : answer;
 }
 
 uint64_t __wrap_felica_decrypt_authentication2_payload_des(KEYED)

@@ -25,6 +25,7 @@
     F(SEAL_NEXT, "session's sealing: under the next number") \
     F(SEAL_ID, "session's sealing: the ID is read a byte too far") \
     F(SEAL_STEPS, "session's sealing: steps the number") \
+    F(SEAL_PADDING, "session's sealing: does not tell the padding") \
     F(APPLY_VERSION, "response step: takes any version") \
     F(APPLY_NUMBER, "response step: the number is not set") \
     F(APPLY_SETS_15, "response step: 15 sets the number") \
@@ -177,7 +178,7 @@ uint64_t __wrap_felica_session_encrypt_command(SHOWN, EXCHANGED)
     if (fault == SEAL_STEPS && answer % 256 == 0) {
         __real_felica_session_increment_transaction_number((uint8_t *)(uintptr_t)session, size);
     }
-    return answer;
+    return fault == SEAL_PADDING ? answer & 0xFF00FFFFFFFFFFFF : answer;
 }
 
 // ---- the response step

@@ -95,11 +95,11 @@ static int sizes(void)
 
 static int accessors(void)
 {
-    const uint64_t answer = (uint64_t)0x1234 << 32 | (uint64_t)0xABCD << 16 | (uint64_t)0xEF << 8 | 0x56;
+    const uint64_t answer = (uint64_t)0x9B78 << 48 | (uint64_t)0x1234 << 32 | (uint64_t)0xABCD << 16 | (uint64_t)0xEF << 8 | 0x56;
 
     return felica_answer_number(answer) == 0x56 && felica_answer_scheme(answer) == 0xEF && felica_answer_length(answer) == 0xABCD &&
            felica_answer_index(answer) == 0xABCD && felica_answer_count(answer) == 0xABCD &&
-           felica_answer_transaction_number(answer) == 0x1234 && felica_answer_node(answer) == 0x1234;
+           felica_answer_transaction_number(answer) == 0x1234 && felica_answer_node(answer) == 0x1234 && felica_answer_padding(answer) == 0x78;
 }
 
 // A session of one byte: 17 from each.

@@ -40,6 +40,11 @@ size_t opened_size(unsigned scheme, size_t n)
     return scheme == FELICA_SCHEME_DES ? n - 16 : n - 10;
 }
 
+unsigned padding_of(unsigned scheme, size_t n)
+{
+    return scheme == FELICA_SCHEME_DES ? (unsigned)(padded(n) - n) : 0;
+}
+
 unsigned opening_number(unsigned scheme, size_t n)
 {
     if (scheme == FELICA_SCHEME_DES && n % 8 != 0) {
@@ -66,7 +71,7 @@ unsigned authentication2_number(size_t n)
 // Padding: only off a boundary, and each byte is the count of bytes added.
 size_t as_opened(unsigned scheme, struct text payload, uint8_t *to)
 {
-    size_t added = scheme == FELICA_SCHEME_DES ? padded(payload.n) - payload.n : 0;
+    unsigned added = padding_of(scheme, payload.n);
 
     memcpy(to, payload.at, payload.n);
     memset(to + payload.n, (int)added, added);

@@ -17,6 +17,9 @@ size_t payload_max(unsigned scheme);
 size_t sealed_size(unsigned scheme, size_t n);
 size_t opened_size(unsigned scheme, size_t n);
 
+// How many bytes of padding sealing adds to a payload of n bytes. What stands before it is a whole block, or nothing.
+unsigned padding_of(unsigned scheme, size_t n);
+
 // The number that data of n bytes which has no valid MAC is turned down with; the same for DES Authentication 2.
 unsigned opening_number(unsigned scheme, size_t n);
 unsigned authentication2_number(size_t n);

@@ -218,7 +218,7 @@ static void model_sealing(const struct call *c, struct modelled *m)
         m->bytes[0] = (uint8_t)n;
         m->bytes[1] = c->code;
     }
-    m->answer = (uint64_t)n << 16;
+    m->answer = (uint64_t)n << 16 | (uint64_t)padding_of(c->scheme, c->data.n) << 48;
 }
 
 // The trimmed opening drops padding.

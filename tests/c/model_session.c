@@ -133,12 +133,17 @@ static struct modelled step(struct session *s)
 static struct modelled seal(const struct session *s, const struct call *c, size_t room)
 {
     struct call sealing = sealing_of(s, c->code, s->number, c->data);
+    struct modelled t;
     uint8_t bytes[256];
 
     if (c->data.n > payload_max(s->scheme)) {
         return says(FELICA_TOO_LONG);
     }
-    return writes(bytes, seal_of(&sealing, bytes), 0, room);
+    t = writes(bytes, seal_of(&sealing, bytes), 0, room);
+    if (t.answer % 256 == 0) {
+        t.answer |= (uint64_t)padding_of(s->scheme, c->data.n) << 48;
+    }
+    return t;
 }
 
 // Open, require the number to exceed the session's, then set it. 10 to 15 are counted.

@@ -37,6 +37,23 @@ unsigned scheme_of(enum operation operation, unsigned mark)
     return has_trait(operation, OF_AES) ? FELICA_SCHEME_AES128 : mark;
 }
 
+unsigned mark_of(enum operation operation, unsigned scheme, struct text session)
+{
+    if (!takes(operation, IN_SESSION)) {
+        return scheme;
+    }
+    return session.n > 1 ? session.at[1] : 0;
+}
+
+// DES: number 2, ID 6, MAC 8. AES: number 2, MAC 8. A frame has length byte and code before it; Authentication 2 has its MAC alone.
+size_t around_of(enum operation operation, unsigned mark)
+{
+    if (operation == AUTH2_SEAL) {
+        return 8;
+    }
+    return (mark == FELICA_SCHEME_DES ? 16 : 10) + (operation == FRAME ? 2 : 0);
+}
+
 // ---- numbers, as bits
 
 #define N(k) (1ul << (k))

@@ -24,13 +24,13 @@
     O(MAKE_2B, derivation, felica_encrypt_challenge2b, (SCHEME, IN(KEYS), IN(ID), IN(DATA), OUT), N(16), PLAIN) \
     O(CHECK_2B, derivation, felica_verify_challenge2b, (SCHEME, IN(KEYS), IN(ID), IN(DATA), IN(CHECKED)), N(13), PLAIN) \
     O(SESSION_KEYS, derivation, felica_derive_secure_session_keys, (IN(DATA), OUT), N(16), OF_AES) \
-    O(SEAL, frames, felica_encrypt_command, (SCHEME, CODE, NUMBER, IN(ID), IN(KEYS), IN(DATA), OUT), SEALING, PLAIN) \
+    O(SEAL, frames, felica_encrypt_command, (SCHEME, CODE, NUMBER, IN(ID), IN(KEYS), IN(DATA), OUT), SEALING, PADS) \
     O(OPEN, frames, felica_decrypt_response, (SCHEME, CODE, IN(ID), IN(KEYS), IN(DATA), OUT), OPENING, NUMBERED | OPENS) \
-    O(FRAME, frames, felica_build_secure_response_frame, (SCHEME, CODE, NUMBER, IN(ID), IN(KEYS), IN(DATA), OUT), SEALING, PLAIN) \
+    O(FRAME, frames, felica_build_secure_response_frame, (SCHEME, CODE, NUMBER, IN(ID), IN(KEYS), IN(DATA), OUT), SEALING, PADS) \
     O(FORECAST, frames, felica_forecast, (SCHEME, LENGTH(DATA)), N(12), TELLS) \
     O(TRIMMED, frames, felica_decrypt_response_trimmed_des, (CODE, IN(ID), IN(KEYS), IN(DATA), OUT), OPENING, \
       OF_DES | NUMBERED | OPENS) \
-    O(AUTH2_SEAL, frames, felica_encrypt_authentication2_payload_des, (IN(KEYS), IN(DATA), OUT), SEALING, OF_DES) \
+    O(AUTH2_SEAL, frames, felica_encrypt_authentication2_payload_des, (IN(KEYS), IN(DATA), OUT), SEALING, OF_DES | PADS) \
     O(AUTH2_OPEN_DES, frames, felica_decrypt_authentication2_payload_des, (IN(KEYS), IN(DATA), OUT), \
       N(10) | N(12) | N(13) | N(16), OF_DES | OPENS) \
     O(PACKAGE, frames, felica_generate_registration_package_des, (IN(KEYS), IN(DATA), OUT), N(10) | N(12) | N(16), OF_DES) \
@@ -39,7 +39,7 @@
     O(MAKE_SESSION, session, felica_session_new, (SCHEME, NUMBER, IN(ID), IN(KEYS), IN(NODES), OUT), N(1), PLAIN) \
     O(STEP, session, felica_session_increment_transaction_number, (IN(SESSION)), N(9), CHANGES | NUMBERED) \
     O(SET, session, felica_session_set_transaction_number, (IN(SESSION), NUMBER), 0, CHANGES) \
-    O(SEAL_IN, session, felica_session_encrypt_command, (IN(SESSION), CODE, IN(DATA), OUT), SEALING, PLAIN) \
+    O(SEAL_IN, session, felica_session_encrypt_command, (IN(SESSION), CODE, IN(DATA), OUT), SEALING, PADS) \
     O(APPLY, session, felica_session_apply_response, (IN(SESSION), CODE, IN(DATA), OUT), OPENING | N(15), CHANGES | NUMBERED | OPENS) \
     O(INDEX, session, felica_session_node_index, (IN(SESSION), NUMBER), 0, TELLS) \
     O(TELL_NUMBER, session, felica_session_transaction_number, (IN(SESSION)), 0, NUMBERED) \
@@ -67,7 +67,9 @@ enum trait {
     OPENS = 16,
     // it takes no mark, and is of this scheme
     OF_DES = 32,
-    OF_AES = 64
+    OF_AES = 64,
+    // it seals a payload, and an acceptance tells how many bytes of padding it added
+    PADS = 128
 };
 
 // What an operation can take: buffers first. KEYS: key entries, derived keys, credentials. DATA: payload, sealed data, random block,
@@ -108,6 +110,10 @@ int has_trait(enum operation operation, enum trait trait);
 int takes(enum operation operation, enum argument argument);
 // The scheme that it works in: that of the mark, unless it takes none.
 unsigned scheme_of(enum operation operation, unsigned mark);
+// The mark that a call goes by: its own, or that of its session, which is the second byte.
+unsigned mark_of(enum operation operation, unsigned scheme, struct text session);
+// How many bytes stand around payload and padding in what a sealing writes under a mark.
+size_t around_of(enum operation operation, unsigned mark);
 // The numbers that it can give under a mark, as bits; of a call with a session the mark is the session's.
 unsigned long numbers_of(enum operation operation, unsigned mark);
 // The call, with the buffers where they stand.

@@ -20,6 +20,8 @@
     P(huge) \
     /* forecasts against sizes as sealed */ \
     P(forecasts) \
+    /* the padding that sealing tells: of payloads of every length up to 300, in each call; and of no other call */ \
+    P(paddings) \
     /* the trimmed opening of each last byte, with each run of it */ \
     P(trims) \
     /* what was sealed opens as what it was */ \

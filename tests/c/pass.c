@@ -1,6 +1,7 @@
 #include "pass.h"
 
 #include "check.h"
+#include "layout.h"
 
 #include "../../include/felica_secure.h"
 
@@ -70,27 +71,20 @@ uint64_t missing(unsigned node)
     return FELICA_KEY_MISSING | (uint64_t)node << 32;
 }
 
-// The mark that decides about the numbers: the call's own, or that of its session, which is its second byte.
-static unsigned mark_of(const struct given *g)
-{
-    if (!takes(g->operation, IN_SESSION)) {
-        return g->scheme;
-    }
-    return g->in[IN_SESSION].n > 1 ? g->in[IN_SESSION].at[1] : 0;
-}
-
 static void judge_answer(const struct given *g, uint64_t answer)
 {
     enum operation operation = g->operation;
-    unsigned number = felica_answer_number(answer);
+    unsigned number = felica_answer_number(answer), mark = mark_of(operation, g->scheme, g->in[IN_SESSION]);
+    unsigned padding = has_trait(operation, PADS) ? padding_of(scheme_of(operation, mark), g->in[IN_DATA].n) : 0;
 
-    check(number <= 17 && (numbers_of(operation, mark_of(g)) >> number & 1) != 0, "a number that is not the function's");
-    check(answer >> 48 == 0, "bits 48 to 63 are not 0");
+    check(number <= 17 && (numbers_of(operation, mark) >> number & 1) != 0, "a number that is not the function's");
+    check(answer >> 56 == 0, "bits 56 to 63 are not 0");
     if (number != 0) {
         check(answer == number || (number == FELICA_KEY_MISSING && answer == missing(felica_answer_node(answer))),
               "a refusal with more than its number");
         return;
     }
+    check(felica_answer_padding(answer) == padding, "a padding");
     check(has_trait(operation, MARKED) == (felica_answer_scheme(answer) != 0), "a scheme, or none");
     check(has_trait(operation, NUMBERED) || felica_answer_transaction_number(answer) == 0, "a transaction number");
     check(takes(operation, TAKES_OUT) || has_trait(operation, TELLS) || felica_answer_length(answer) == 0, "a length");

@@ -1,8 +1,8 @@
 // One call of the library with its buffers between pages that cannot be touched, and what has to hold of every call:
 // - no byte outside the output changes, no input changes, and a session only where the function may change it;
 // - a refusal is one of the function's own, changes no byte of the output, and every other bit of its answer is 0, but for the node with 4;
-// - an acceptance changes no byte of the output behind its length; bits 48 to 63 of its answer are 0; it has a scheme, and no length and
-//   no transaction number, but where the function gives them.
+// - an acceptance changes no byte of the output behind its length; bits 56 to 63 of its answer are 0; it has a scheme, and no length and
+//   no transaction number, but where the function gives them; of a sealing it has the padding that the payload's length says, else none.
 #ifndef PASS_H
 #define PASS_H
 

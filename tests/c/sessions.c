@@ -274,7 +274,7 @@ static void seals(unsigned scheme, size_t n)
     }
     seal_of(&sealing, wanted);
     gives(&c, 0, sealed_size(scheme, n), wanted, NULL);
-    answers(&sealing, 300, (unsigned)n, (uint64_t)sealed_size(scheme, n) << 16, wanted);
+    answers(&sealing, 300, (unsigned)n, padding_bits(&sealing) | (uint64_t)sealed_size(scheme, n) << 16, wanted);
 }
 
 // The session after a response that was answered so, at `to`.

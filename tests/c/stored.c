@@ -255,7 +255,8 @@ static void plain_case(const struct call *c, const struct values *v)
     } else {
         gives(c, v->transaction, v->bytes.n, v->bytes.at, NULL);
     }
-    as_modelled(c, answer_of(v), v->bytes);
+    // the original does not tell the padding
+    as_modelled(c, answer_of(v) | (v->number == 0 ? padding_bits(c) : 0), v->bytes);
     if (c->operation == OPEN && c->scheme == FELICA_SCHEME_DES) {
         trimmed(*c, v->number, v->transaction, v->bytes);
     }

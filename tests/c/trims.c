@@ -17,7 +17,7 @@ static struct call trimming_of(unsigned seed, struct text payload, uint8_t seale
     size_t n = sealed_size(FELICA_SCHEME_DES, payload.n);
 
     check(felica_encrypt_command(c.scheme, c.code, c.number, c.id.at, c.id.n, c.credentials.at, c.credentials.n, payload.at, payload.n,
-                                 sealed, 255) == (uint64_t)n << 16,
+                                 sealed, 255) == ((uint64_t)n << 16 | (uint64_t)padding_of(FELICA_SCHEME_DES, payload.n) << 48),
           "a payload is not sealed");
     c.data = text_of(sealed, n);
     return c;

@@ -2,7 +2,7 @@
 
 #include <valgrind/memcheck.h>
 
-// The linker's names for the ends of the section that the archive's constants are moved to (tests/ct/run).
+// The linker's names for the ends of the section that the archive's tables are moved to (tests/ct/run).
 extern const uint8_t __start_felica_tables[], __stop_felica_tables[];
 
 void secret(void *at, size_t n)

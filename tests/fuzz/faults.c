@@ -30,7 +30,7 @@ uint64_t __wrap_felica_encrypt_command(SEALED)
     if (has("keeps-state") && ++accepted % 5000 == 0) {
         out[0] ^= 1;
     }
-    return answer;
+    return has("padding-not-told") && n == 99 ? answer & 0xFF00FFFFFFFFFFFF : answer;
 }
 
 uint64_t __wrap_felica_decrypt_response(uint8_t scheme, uint8_t code, OPENED)
@@ -81,7 +81,7 @@ uint64_t __wrap_felica_forecast(uint8_t scheme, size_t n)
     if (has("forecasts-one-more") && n % 8 == 1 && felica_answer_number(answer) == 0) {
         answer += (uint64_t)1 << 16;
     }
-    return has("bit-48") && n == 99 && felica_answer_number(answer) == 0 ? answer | (uint64_t)1 << 48 : answer;
+    return has("bit-56") && n == 99 && felica_answer_number(answer) == 0 ? answer | (uint64_t)1 << 56 : answer;
 }
 
 uint64_t __wrap_felica_generate_registration_package_des(KEYED)

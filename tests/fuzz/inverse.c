@@ -83,6 +83,15 @@ static void trims(const struct shot *s, const struct result *r)
           felica_answer_length(r->answer));
 }
 
+// The payload's length comes back from the size as it was written, the padding (which pass.c has held to its rule), and what stands around both.
+static void counts_back(const struct shot *s, const struct result *r)
+{
+    size_t around = around_of(s->op, mark_of(s->op, s->scheme, text_of(B(SESSION))));
+
+    check(felica_answer_length(r->answer) - around - felica_answer_padding(r->answer) == s->in[IN_DATA].n,
+          "the payload's length does not come back from the size");
+}
+
 static void sealed_inverse(const struct shot *s, const struct result *r)
 {
     size_t n = felica_answer_length(r->answer);
@@ -126,6 +135,9 @@ void inverse(const struct shot *s, const struct result *r)
         return;
     }
     challenge_inverse(s, r);
+    if (has_trait(s->op, PADS)) {
+        counts_back(s, r);
+    }
     sealed_inverse(s, r);
     session_inverse(s, r);
 }

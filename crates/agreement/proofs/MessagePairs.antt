@@ -108,9 +108,9 @@ module _ (t : Message) where
         never_turned_down e m = absurd (refusal_some e (m.number ∙ ap (λ (d : List ℕ). (t.C d).number) bytes_are ∙ t.checks (sym m1.number) number_is))
 
         -- both went out, one behind the other
-        pub both_said : {n : ℕ} {a : Accepted} {before after : List ℕ} → (a.length ≡ n) × (a.transaction_number ≡ 0)
+        pub both_said : {n : ℕ} {a : Accepted} {before after : List ℕ} → (a.length ≡ n) × (a.transaction_number ≡ 0) × (a.padding ≡ 0)
             → (n ≡ length (x ++ v)) × (after ≡ over (x ++ v) before) → Meets Said (Ok a) before after
         both_said {n} {a} {before} {after} s j =
             let e = ap₂ (λ (s t : List ℕ). s ++ t) sent_is bytes_are in
             rw (pair_both t.A answered (sym m1.number) number_is)
-            (accepted_meets 0 (t.A.bytes ++ answered.bytes) (Ok a) before after refl (s.0 ∙ j.0 ∙ ap length e) s.1 (j.1 ∙ ap (λ (b : List ℕ). over b before) e))
+            (accepted_meets 0 (t.A.bytes ++ answered.bytes) (Ok a) before after refl (s.0 ∙ j.0 ∙ ap length e) s.1 s.2 (j.1 ∙ ap (λ (b : List ℕ). over b before) e))

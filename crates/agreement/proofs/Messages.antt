@@ -8,8 +8,8 @@ use mir.Val.{Fits}
 use lib.ListN.{length, drop, get_or}
 use Rattle.cipher.specs.Bytes.{Bytes}
 use Rattle.cipher.proofs.ByteLists.{Block}
-use Rattle.answer.specs.Outcome.{Outcome, Answer, accepted, Meets}
-use Rattle.answer.proofs.Refusals.{accepted_zero}
+use Rattle.answer.specs.Outcome.{Outcome, Answer, acceptance, accepted, Meets}
+use Rattle.answer.proofs.Refusals.{acceptance_zero}
 use Rattle.frame.specs.Scheme.{sealing, opening, responding}
 use Rattle.frame.proofs.Frames.{opens_again, frame_opens_again}
 use Rattle.session.specs.Challenge.{making_1a, reading_1a, making_1b, checking_1b, making_2a, reading_2a, making_2b, checking_2b}
@@ -22,10 +22,10 @@ bytes s h i = omega (arith, h i)
 
 -- number and bytes of an acceptance
 pub zero_of : (o : Outcome) (b : List ℕ) → o ≡ accepted 0 b → o.number ≡ 0
-zero_of o b e = ap (λ (p : Outcome). p.number) e ∙ accepted_zero 0 b
+zero_of o b e = ap (λ (p : Outcome). p.number) e ∙ acceptance_zero 0 0 b
 
 pub bytes_of : (o : Outcome) (b : List ℕ) → o ≡ accepted 0 b → o.bytes ≡ b
-unfolding accepted
+unfolding acceptance
 bytes_of o b e = ap (λ (p : Outcome). p.bytes) e
 
 -- ---- random blocks, in blocks of 16 bytes

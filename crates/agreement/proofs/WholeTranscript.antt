@@ -11,9 +11,9 @@ use Rattle.answer.specs.Delivery.{delivering, Delivers}
 use Rattle.answer.specs.declared.answer.Accepted.{Accepted}
 use Rattle.answer.specs.declared.refusal.Refusal.{Refusal}
 use Rattle.answer.specs.Refusal.{refusal_number}
-use Rattle.answer.specs.Outcome.{Outcome, Answer, refused, accepted, choose, over, Meets}
+use Rattle.answer.specs.Outcome.{Outcome, Answer, refused, acceptance, accepted, choose, over, Meets}
 use Rattle.answer.proofs.Outputs.{front, fits_front}
-use Rattle.answer.proofs.Refusals.{accepted_zero}
+use Rattle.answer.proofs.Refusals.{acceptance_zero}
 use Rattle.answer.proofs.Rows.{err_meets, refusal_some, delivers_meets}
 use Rattle.session.specs.Derivation.{Derived, Derives, derivation}
 use Rattle.session.specs.declared.keys.DerivedAuthKeys.{DerivedAuthKeys}
@@ -25,7 +25,7 @@ use Rattle.agreement.specs.inner.Said.{pair, holding, exchange1, random2_read, e
 
 pub unless_stops : (ks : List ℕ) (b : List ℕ) (o : Outcome) → ((unless ks (accepted 0 b)).number ≡ 0 → ⊥) → unless ks o ≡ refused (unless ks (accepted 0 b)).number
 unfolding unless choose refused
-unless_stops [] b o h = absurd (h (accepted_zero 0 b))
+unless_stops [] b o h = absurd (h (acceptance_zero 0 0 b))
 unless_stops (zero ∷ ks) b o h = unless_stops ks b o h
 unless_stops (suc k ∷ ks) b o h = rw (ne_eqb (suc k) 0 (λ e. omega arith))
 
@@ -36,7 +36,7 @@ unless_goes (zero ∷ ks) b o h = unless_goes ks b o h
 unless_goes (suc k ∷ ks) b o h = let z : suc k ≡ 0 = rw (ne_eqb (suc k) 0 (λ e. omega arith)) at h in absurd (omega arith)
 
 pair_bytes : (a b : Outcome) → (pair a b).number ≡ 0 → (pair a b).bytes ≡ a.bytes ++ b.bytes
-unfolding pair accepted
+unfolding pair acceptance
 pair_bytes a b z = ap (λ (o : Outcome). o.bytes) (unless_goes (a.number ∷ b.number ∷ []) (a.bytes ++ b.bytes) (accepted 0 (a.bytes ++ b.bytes)) z)
 
 -- ---- three pairs
@@ -160,7 +160,7 @@ module _ (s : ℕ) (reader card idm c3 random1 random2 : List ℕ) (code number 
           → {r : Answer} {before after : List ℕ} → Delivers (delivering 0 said room) r before after → Meets Spoken r before after
       delivered p is m1 q1 m2 q2 m3 q3 said q short d =
           let b = ap₂ (λ (s t : List ℕ). s ++ t) (ap₂ (λ (s t : List ℕ). s ++ t) (q1 ∙ piece_is _ _ _ _ m1) (q2 ∙ piece_is _ _ _ _ m2)) (q3 ∙ piece_is _ _ _ _ m3 ∙ ap (λ (o : Outcome). o.bytes) is) in
-          rw (say_all (ap (λ (o : Outcome). o.number) (sym is) ∙ sym m3.number) said (q ∙ b)) (delivers_meets _ _ _ d short)
+          rw (say_all (ap (λ (o : Outcome). o.number) (sym is) ∙ sym m3.number) said (q ∙ b)) (delivers_meets _ 0 _ _ d short)
 
 -- what stands at the front of an output, as `&s[..n]` has it
 pub front_is : (b o s : List ℕ) (n : ℕ) → (n ≡ length b) × (s ≡ over b o) → take n s ≡ b

@@ -227,7 +227,7 @@ impl<'a> Ends<'a> {
         let n = join(one, two, &mut exchanged);
         let mut said = [0u8; 576];
         let end = join(&exchanged[..n], three, &mut said);
-        answer::deliver(0, &said[..end], out)
+        answer::deliver(0, 0, &said[..end], out)
     }
 }
 

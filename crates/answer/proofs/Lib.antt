@@ -5,6 +5,7 @@
 -- Pieces: one piece copied behind another, or changed in place
 -- Refusals: an acceptance comes from the work alone; a refusal writes nothing
 -- Rows: how `decide` and a guard go by their rows; when an answer meets an outcome
+-- Unpadded: outcomes whose padding is 0
 pub mod Elements
 pub mod Equality
 pub mod Fits
@@ -12,3 +13,4 @@ pub mod Outputs
 pub mod Pieces
 pub mod Refusals
 pub mod Rows
+pub mod Unpadded

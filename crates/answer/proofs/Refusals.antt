@@ -5,9 +5,9 @@ use mathlib.Core.List.{List, [], ◌∷◌}
 use Prim.Native.Nat.{ℕ, ◌<◌}
 use native.Mathlib.Omega.{arith}
 use Rattle.answer.specs.Tests.{isnt, either, same}
-use Rattle.answer.specs.Delivery.{delivering}
-use Rattle.answer.specs.Outcome.{Outcome, refused, accepted, Row, choose, decide}
-use Rattle.answer.proofs.Rows.{AllFalse}
+use Rattle.answer.specs.Delivery.{handing, delivering}
+use Rattle.answer.specs.Outcome.{Outcome, refused, acceptance, accepted, Row, choose, decide}
+use Rattle.answer.proofs.Rows.{AllFalse, decide_keeps}
 use Rattle.answer.proofs.Equality.{same_refl}
 
 -- each row's number is one of a refusal
@@ -39,9 +39,9 @@ zero_passes (r ∷ rs) o n h = go r.holds refl (zero_passes rs o n.1)
         absurd (omega (arith, n.0))
     go false e rest = (e, rest (ap (λ (p : Outcome). p.number) (sym (row_passes r rs o e)) ∙ h))
 
-pub accepted_zero : (number : ℕ) (payload : List ℕ) → (accepted number payload).number ≡ 0
-unfolding accepted
-accepted_zero number payload = refl
+pub acceptance_zero : (number padding : ℕ) (payload : List ℕ) → (acceptance number padding payload).number ≡ 0
+unfolding acceptance
+acceptance_zero number padding payload = refl
 
 -- ---- a refusal
 
@@ -70,31 +70,24 @@ pub refused_whole : (k : ℕ) → Whole (refused k)
 unfolding refused
 refused_whole k h = refl
 
-pub choose_whole : (t : Bool) (a b : Outcome) → Whole a → Whole b → Whole (choose t a b)
-unfolding choose
-choose_whole true a b f g = f
-choose_whole false a b f g = g
-
 pub decide_whole : (rs : List Row) (o : Outcome) → Whole o → Whole (decide rs o)
-unfolding decide
-decide_whole [] o w = w
-decide_whole (r ∷ rs) o w = choose_whole r.holds (refused r.number) (decide rs o) (refused_whole r.number) (decide_whole rs o w)
+decide_whole = decide_keeps Whole refused_whole
 
-pub accepted_whole : (n : ℕ) (b : List ℕ) → Whole (accepted n b)
-accepted_whole n b h = absurd (h (accepted_zero n b))
+pub acceptance_whole : (n p : ℕ) (b : List ℕ) → Whole (acceptance n p b)
+acceptance_whole n p b h = absurd (h (acceptance_zero n p b))
 
 pub delivering_whole : (n : ℕ) (b : List ℕ) (room : ℕ) → Whole (delivering n b room)
-unfolding delivering
-delivering_whole n b room = decide_whole _ (accepted n b) (accepted_whole n b)
+unfolding handing
+delivering_whole n b room = decide_whole _ (accepted n b) (acceptance_whole n 0 b)
 
 -- ---- what an acceptance says
 
 pub accepted_number : (m n : ℕ) (s t : List ℕ) → accepted m s ≡ accepted n t → m ≡ n
-unfolding accepted
+unfolding acceptance
 accepted_number m n s t e = ap (λ (o : Outcome). o.transaction) e
 
 pub accepted_bytes : (m n : ℕ) (s t : List ℕ) → accepted m s ≡ accepted n t → s ≡ t
-unfolding accepted
+unfolding acceptance
 accepted_bytes m n s t e = ap (λ (o : Outcome). o.bytes) e
 
 -- ---- tests that a row does not hold

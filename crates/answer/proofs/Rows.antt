@@ -11,9 +11,9 @@ use Rattle.std.specs.Prelude.{Err, ◌≢◌}
 use Rattle.answer.specs.declared.refusal.Refusal.{Refusal}
 use Rattle.answer.specs.declared.refusal.Refusal.TheVariants.{TooManyEntries, SameKeyTwice, NoNodes, KeyMissing, OtherAlgorithm, IndividualKeyWithDes, DesWithoutArea, DesWithoutKeyedService, NumberExhausted, NotWholeBlocks, TooShort, TooLong, MacDiffers, IdDiffers, NumberNotAbove, OutputTooSmall, BadMarkOrLength}
 use Rattle.answer.specs.Refusal.{refusal_number}
-use Rattle.answer.specs.Outcome.{Outcome, Row, Meets, Answer, answer_number, answer_length, answer_transaction, refused, accepted, row, choose, decide, first_of, over}
+use Rattle.answer.specs.Outcome.{Outcome, Row, Meets, Answer, answer_number, answer_length, answer_transaction, answer_padding, refused, acceptance, accepted, row, choose, decide, first_of, over}
 use Rattle.answer.specs.Tests.{isnt, either, both}
-use Rattle.answer.specs.Delivery.{delivering, Delivers}
+use Rattle.answer.specs.Delivery.{handing, delivering, Delivers}
 use Rattle.answer.proofs.Equality.{both_true}
 
 -- ---- tests
@@ -39,6 +39,18 @@ pub is_number : (m n : ℕ) → isnt (eqb m n) ≡ false → m ≡ n
 is_number m n h = eqb-true m n (isnt_false (eqb m n) h)
 
 -- ---- rows
+
+-- what refusals and o have, o behind rows has
+module _ (P : Outcome → Type 0) (refusals : (k : ℕ) → P (refused k)) where
+  pub choose_keeps : (t : Bool) (a b : Outcome) → P a → P b → P (choose t a b)
+  unfolding choose
+  choose_keeps true a b p q = p
+  choose_keeps false a b p q = q
+
+  pub decide_keeps : (rs : List Row) (o : Outcome) → P o → P (decide rs o)
+  unfolding decide
+  decide_keeps [] o p = p
+  decide_keeps (r ∷ rs) o p = choose_keeps r.holds (refused r.number) (decide rs o) (refusals r.number) (decide_keeps rs o p)
 
 -- no row holds
 abbrev pub AllFalse : List Row → Type 0
@@ -152,19 +164,20 @@ refusal_some BadMarkOrLength = λ h. omega arith
 
 -- an answer that is the refusal k
 abbrev pub Refused : ℕ → Answer → Type 0
-Refused k r = (answer_number r ≡ k) × (answer_length r ≡ 0) × (answer_transaction r ≡ 0)
+Refused k r = (answer_number r ≡ k) × (answer_length r ≡ 0) × (answer_transaction r ≡ 0) × (answer_padding r ≡ 0)
 
 pub refused_meets : (k : ℕ) (r : Answer) (out : List ℕ) → Refused k r → Meets (refused k) r out out
 unfolding refused over
-refused_meets k r out h = record { number = h.0; length_is = h.1; transaction = h.2; output = refl }
+refused_meets k r out h = record { number = h.0; length_is = h.1; transaction = h.2; padding = h.3; output = refl }
 
-pub accepted_meets : (n : ℕ) (b : List ℕ) (r : Answer) (before after : List ℕ) → answer_number r ≡ 0 → answer_length r ≡ length b → answer_transaction r ≡ n → after ≡ over b before → Meets (accepted n b) r before after
-unfolding accepted
-accepted_meets n b r before after h l t w = record { number = h; length_is = l; transaction = t; output = w }
+pub accepted_meets : (n : ℕ) (b : List ℕ) (r : Answer) (before after : List ℕ) → answer_number r ≡ 0 → answer_length r ≡ length b → answer_transaction r ≡ n → answer_padding r ≡ 0 → after ≡ over b before
+    → Meets (accepted n b) r before after
+unfolding acceptance
+accepted_meets n b r before after h l t p w = record { number = h; length_is = l; transaction = t; padding = p; output = w }
 
 -- a refusal has no other value
 pub err_meets : (e : Refusal) (out : List ℕ) {r : Answer} → r ≡ Err e → Meets (refused (refusal_number e)) r out out
-err_meets e out {r} h = rw h (refused_meets (refusal_number e) (Err e) out (refl, refl, refl))
+err_meets e out {r} h = rw h (refused_meets (refusal_number e) (Err e) out (refl, refl, refl, refl))
 
 -- the same for an outcome that is known to be one of them
 pub meets_refused : (o : Outcome) (k : ℕ) (r : Answer) (out : List ℕ) → o ≡ refused k → Refused k r → Meets o r out out
@@ -180,50 +193,48 @@ row_meets rs o e out {r} q h = rw (first_refuses rs o (refusal_number e) (sym h)
 
 -- ---- delivery
 
-pub no_room : (n : ℕ) (p : List ℕ) (room : ℕ) → room < length p → delivering n p room ≡ refused 16
-unfolding delivering decide choose
-no_room n p room h = rw (lt-ltb room (length p) h)
+pub no_room : (n p : ℕ) (b : List ℕ) (room : ℕ) → room < length b → handing (acceptance n p b) room ≡ refused 16
+unfolding handing acceptance decide choose
+no_room n p b room h = rw (lt-ltb room (length b) h)
 
-pub room_enough : (n : ℕ) (p : List ℕ) (room : ℕ) → length p ≤ room → delivering n p room ≡ accepted n p
-unfolding delivering decide choose
-room_enough n p room h = rw (le-ltb room (length p) h)
+pub room_enough : (n p : ℕ) (b : List ℕ) (room : ℕ) → length b ≤ room → handing (acceptance n p b) room ≡ acceptance n p b
+unfolding handing acceptance decide choose
+room_enough n p b room h = rw (le-ltb room (length b) h)
 
 pub refused_delivers : (k : ℕ) (r : Answer) (out : List ℕ) → Refused k r → Delivers (refused k) r out out
 unfolding refused over
-refused_delivers k r out h = record { number = h.0; length_is = h.1; transaction = h.2; output = refl }
+refused_delivers k r out h = record { number = h.0; length_is = h.1; transaction = h.2; padding = h.3; output = refl }
 
-pub accepted_delivers : (n : ℕ) (b : List ℕ) (r : Answer) (before after : List ℕ) → answer_number r ≡ 0 → answer_length r ≡ length b % 65536 → answer_transaction r ≡ n → after ≡ over b before → Delivers (accepted n b) r before after
-unfolding accepted
-accepted_delivers n b r before after h l t w = record { number = h; length_is = l; transaction = t; output = w }
+pub acceptance_delivers : (n p : ℕ) (b : List ℕ) (r : Answer) (before after : List ℕ) → answer_number r ≡ 0 → answer_length r ≡ length b % 65536 → answer_transaction r ≡ n → answer_padding r ≡ p → after ≡ over b before
+    → Delivers (acceptance n p b) r before after
+unfolding acceptance
+acceptance_delivers n p b r before after h l t q w = record { number = h; length_is = l; transaction = t; padding = q; output = w }
 
 -- a refusal has no other value
 pub err_delivers : (e : Refusal) (out : List ℕ) {r : Answer} → r ≡ Err e → Delivers (refused (refusal_number e)) r out out
-err_delivers e out {r} h = rw h (refused_delivers (refusal_number e) (Err e) out (refl, refl, refl))
+err_delivers e out {r} h = rw h (refused_delivers (refusal_number e) (Err e) out (refl, refl, refl, refl))
 
 delivers_short : (o : Outcome) (r : Answer) (before after : List ℕ) → length o.bytes ≤ 65535 → Delivers o r before after → Meets o r before after
-delivers_short o r before after h d = record { number = d.number; length_is = d.length_is ∙ omega arith; transaction = d.transaction; output = d.output }
+delivers_short o r before after h d = record { number = d.number; length_is = d.length_is ∙ omega arith; transaction = d.transaction; padding = d.padding; output = d.output }
 
-choose_no_longer : (t : Bool) (k : ℕ) (o : Outcome) (n : ℕ) → length o.bytes ≤ n → length (choose t (refused k) o).bytes ≤ n
-unfolding choose refused
-choose_no_longer true k o n h = omega arith
-choose_no_longer false k o n h = h
+refused_no_longer : (n k : ℕ) → length (refused k).bytes ≤ n
+unfolding refused
+refused_no_longer n k = omega arith
 
 -- what goes out behind rows is no longer than without them
 decide_no_longer : (rs : List Row) (o : Outcome) (n : ℕ) → length o.bytes ≤ n → length (decide rs o).bytes ≤ n
-unfolding decide
-decide_no_longer [] o n h = h
-decide_no_longer (r ∷ rs) o n h = choose_no_longer r.holds r.number (decide rs o) n (decide_no_longer rs o n h)
+decide_no_longer rs o n = decide_keeps (λ p. length p.bytes ≤ n) (refused_no_longer n) rs o
 
-delivering_no_longer : (n : ℕ) (p : List ℕ) (room most : ℕ) → length p ≤ most → length (delivering n p room).bytes ≤ most
-unfolding delivering accepted
-delivering_no_longer n p room most h = decide_no_longer _ (accepted n p) most h
+handing_no_longer : (n p : ℕ) (b : List ℕ) (room most : ℕ) → length b ≤ most → length (handing (acceptance n p b) room).bytes ≤ most
+unfolding handing acceptance
+handing_no_longer n p b room most h = decide_no_longer _ (acceptance n p b) most h
 
--- a payload of up to 65,535 bytes is delivered with its length
-pub delivers_meets : (n : ℕ) (p : List ℕ) (room : ℕ) {r : Answer} {before after : List ℕ} → Delivers (delivering n p room) r before after → length p ≤ 65535 → Meets (delivering n p room) r before after
-delivers_meets n p room {r} {before} {after} d h = delivers_short (delivering n p room) r before after (delivering_no_longer n p room 65535 h) d
+-- up to 65,535 bytes are delivered with their length
+pub delivers_meets : (n p : ℕ) (b : List ℕ) (room : ℕ) {r : Answer} {before after : List ℕ} → Delivers (handing (acceptance n p b) room) r before after → length b ≤ 65535 → Meets (handing (acceptance n p b) room) r before after
+delivers_meets n p b room {r} {before} {after} d h = delivers_short (handing (acceptance n p b) room) r before after (handing_no_longer n p b room 65535 h) d
 
 -- also behind rows
 pub decided_meets : (rs : List Row) (n : ℕ) (p : List ℕ) (room : ℕ) {r : Answer} {before after : List ℕ} → Delivers (decide rs (delivering n p room)) r before after → length p ≤ 65535
     → Meets (decide rs (delivering n p room)) r before after
 decided_meets rs n p room {r} {before} {after} d h =
-    delivers_short (decide rs (delivering n p room)) r before after (decide_no_longer rs (delivering n p room) 65535 (delivering_no_longer n p room 65535 h)) d
+    delivers_short (decide rs (delivering n p room)) r before after (decide_no_longer rs (delivering n p room) 65535 (handing_no_longer n 0 p room 65535 h)) d

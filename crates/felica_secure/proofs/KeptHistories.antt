@@ -8,7 +8,7 @@ use lib.Dec.{eqb, ltb, lit<}
 use lib.ListN.{length, take, drop}
 use Rattle.cipher.specs.Bytes.{Bytes}
 use Rattle.answer.specs.Number.{number_bytes}
-use Rattle.answer.specs.Outcome.{Outcome, row, choose, accepted as accepting, over}
+use Rattle.answer.specs.Outcome.{Outcome, row, choose, acceptance, accepted as accepting, over}
 use Rattle.answer.specs.Tests.{isnt, both}
 use Rattle.answer.proofs.Rows.{is_number, decide_false}
 use Rattle.answer.proofs.Refusals.{zero_passes}
@@ -47,7 +47,7 @@ module _ (scheme number : ℕ) (id credentials listed : List ℕ) (r : ℕ) (bef
     (accepted : (making kept_session (make_rows scheme (length id) (length credentials) (length listed)) (established scheme number id credentials listed) (length before)).number ≡ 0) where
   -- what was made is a session
   pub made_session : is_session b ≡ true
-  unfolding making over accepting
+  unfolding making over acceptance
   made_session =
       let t = established scheme number id credentials listed in
       let w : Outcome = accepting 0 (encode t) in

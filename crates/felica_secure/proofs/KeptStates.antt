@@ -3,15 +3,16 @@
 use mathlib.Core.Path.{◌≡◌, refl, sym, ap, ◌∙◌}
 use mathlib.Core.Bool.{true, false, true≢false}
 use mathlib.Core.List.{List, [], ◌∷◌, append-nil}
-use Prim.Native.Nat.{ℕ, ◌+◌, ◌*◌, ◌≤◌}
+use Prim.Native.Nat.{ℕ, ◌≤◌}
 use native.Mathlib.Omega.{arith}
 use borrow.Author.Tests.{eq-eqb, ne_eqb}
 use lib.ListN.{length, drop, drop_of_length-le}
-use Rattle.answer.specs.Outcome.{Row, refused, accepted, choose, decide, first_of, over}
+use Rattle.answer.specs.Outcome.{Row, refused, acceptance, accepted, choose, decide, first_of, over}
 use Rattle.answer.specs.Tests.{isnt}
 use Rattle.answer.proofs.Rows.{numbered, decide_false, first_refuses, first_passes}
 use Rattle.felica_secure.specs.Calls.{Kept, Call, Tells, Keeps, making, MakesKept, Turn, events, last_bytes, Through}
-use Rattle.felica_secure.specs.Packed.{packed}
+use Rattle.felica_secure.specs.Packed.{packed_sealed}
+use Rattle.felica_secure.proofs.PackedParts.{packed_alone}
 
 -- ---- a call
 
@@ -42,10 +43,8 @@ module _ {S : Type 0} (k : Kept S) (call : S → Call S) (b : List ℕ) (r : ℕ
 module _ {S : Type 0} (k : Kept S) (rows : List Row) (s : S) (r : ℕ) (before : List ℕ) where
   -- a refusal: the answer is its number
   turned_down : (n : ℕ) → (n ≡ 0 → ⊥) → r ≡ n → making k rows s (length before) ≡ refused n → MakesKept k rows s r before before
-  unfolding refused over packed
-  turned_down n z e q =
-      let p : n ≡ n + 0 * 0x100 + 0 * 0x10000 + 0 * 0x100000000 = omega arith in
-      record { returns = rw q (record { answer = e ∙ p; output = refl }); again = rw q (λ y. absurd (z y)) }
+  unfolding refused over
+  turned_down n z e q = record { returns = rw q (record { answer = e ∙ sym (packed_alone n); output = refl }); again = rw q (λ y. absurd (z y)) }
 
   pub making_other_size : (length before ≡ k.size → ⊥) → r ≡ 17 → MakesKept k rows s r before before
   unfolding making decide choose isnt
@@ -59,9 +58,9 @@ module _ {S : Type 0} (k : Kept S) (rows : List Row) (s : S) (r : ℕ) (before :
     pub making_refused : (n ≡ 0 → ⊥) → r ≡ n → MakesKept k rows s r before before
     making_refused z e = turned_down n z e (goes_on ∙ first_refuses rows _ n f z)
 
-    pub making_made : numbered rows ≡ true → n ≡ 0 → (t : S) (after : List ℕ) → t ≡ s → (after ≡ k.encode t) × (k.decode after ≡ t) → length after ≡ k.size → r ≡ packed 0 0 k.size 0
+    pub making_made : numbered rows ≡ true → n ≡ 0 → (t : S) (after : List ℕ) → t ≡ s → (after ≡ k.encode t) × (k.decode after ≡ t) → length after ≡ k.size → r ≡ packed_sealed 0 0 k.size 0 0
         → MakesKept k rows s r before after
-    unfolding accepted over
+    unfolding acceptance over
     making_made numbers z t after q e m a =
         let o : making k rows s (length before) ≡ accepted 0 (k.encode s) = goes_on ∙ decide_false rows _ (first_passes rows n numbers f z) in
         let w : k.encode s ≡ after = sym (e.0 ∙ ap k.encode q) in

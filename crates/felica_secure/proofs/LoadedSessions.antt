@@ -3,9 +3,8 @@ use mathlib.Core.Path.{◌≡◌, ◌∙◌}
 use mathlib.Core.Bool.{true, false}
 use mathlib.Core.List.{List, []}
 use Prim.Native.Nat.{ℕ}
-use native.Mathlib.Omega.{arith}
 use Rattle.std.specs.Prelude.{Result, Ok, Err, MatchResult, IsOkAnd}
-use Rattle.answer.specs.Outcome.{Answer, answer_number, answer_length, answer_transaction, over}
+use Rattle.answer.specs.Outcome.{Answer, answer_number, answer_length, answer_transaction, answer_padding, over}
 use Rattle.answer.specs.declared.answer.Accepted.{Accepted}
 use Rattle.answer.specs.Refusal.{refusal_number}
 use Rattle.answer.specs.declared.refusal.Refusal.{Refusal}
@@ -13,21 +12,21 @@ use Rattle.answer.specs.declared.refusal.Refusal.TheVariants.{BadMarkOrLength}
 use Rattle.session.specs.Record.{encode, decode, is_session}
 use Rattle.session.specs.declared.context.AuthenticatedContext.{AuthenticatedContext}
 use Rattle.felica_secure.specs.Calls.{Call, Tells, Keeps}
-use Rattle.felica_secure.specs.Packed.{packed}
+use Rattle.felica_secure.specs.Packed.{packed, packed_sealed}
 use Rattle.felica_secure.specs.SessionCalls.{kept_session}
+use Rattle.felica_secure.proofs.PackedParts.{packed_alone, packed_unpadded}
 use Rattle.felica_secure.proofs.KeptStates.{no_tells, no_keeps, tells, keeps}
 
 -- a refusal, packed
-pub packed_refusal : (e : Refusal) {r : ℕ} → r ≡ packed (refusal_number e) 0 0 0 → r ≡ refusal_number e
-unfolding packed
-packed_refusal e p = p ∙ omega arith
+pub packed_refusal : (e : Refusal) {r : ℕ} → r ≡ packed_sealed (refusal_number e) 0 0 0 0 → r ≡ refusal_number e
+packed_refusal e p = p ∙ packed_alone (refusal_number e)
 
-pub packed_bad : (e : Refusal) {r : ℕ} → e ≡ BadMarkOrLength → r ≡ packed (refusal_number e) 0 0 0 → r ≡ 17
+pub packed_bad : (e : Refusal) {r : ℕ} → e ≡ BadMarkOrLength → r ≡ packed_sealed (refusal_number e) 0 0 0 0 → r ≡ 17
 packed_bad e q p = packed_refusal e p ∙ rw q
 
 module _ (call : AuthenticatedContext → Call AuthenticatedContext) (b : List ℕ) {r : ℕ} where
   -- no session
-  module _ (e : Refusal) (h : (is_session b ≡ false) × (e ≡ BadMarkOrLength)) (p : r ≡ packed (refusal_number e) 0 0 0) (out : List ℕ) where
+  module _ (e : Refusal) (h : (is_session b ≡ false) × (e ≡ BadMarkOrLength)) (p : r ≡ packed_sealed (refusal_number e) 0 0 0 0) (out : List ℕ) where
     pub untold : Tells kept_session call b r out out
     untold = no_tells kept_session call b r h.0 (packed_bad e h.1 p) out
 
@@ -46,10 +45,10 @@ module _ (call : AuthenticatedContext → Call AuthenticatedContext) (b : List �
 pub told_by_map : (call : AuthenticatedContext → Call AuthenticatedContext) (b : List ℕ) (loaded : Result AuthenticatedContext Refusal) (r : ℕ) (answer : Answer) (P : AuthenticatedContext → Accepted → Type 0)
     → MatchResult loaded (λ s. (is_session b ≡ true) × (s ≡ decode b)) (λ e. (is_session b ≡ false) × (e ≡ BadMarkOrLength))
     → MatchResult loaded (λ s. IsOkAnd answer (P s)) (λ e. answer ≡ Err e)
-    → r ≡ packed (answer_number answer) 0 (answer_length answer) (answer_transaction answer)
-    → ((s : AuthenticatedContext) (a : Accepted) → P s a → (packed 0 0 a.length a.transaction_number ≡ (call s).answer) × ((call s).bytes ≡ []))
+    → r ≡ packed_sealed (answer_number answer) 0 (answer_length answer) (answer_transaction answer) (answer_padding answer)
+    → ((s : AuthenticatedContext) (a : Accepted) → P s a → (packed 0 0 a.length a.transaction_number ≡ (call s).answer) × (a.padding ≡ 0) × ((call s).bytes ≡ []))
     → Tells kept_session call b r [] []
 unfolding over
 told_by_map call b (Err e) r answer P h m p f = untold call b e h (p ∙ rw m) []
-told_by_map call b (Ok s) r (Ok a) P h m p f = let k = f s a m in told call b s h [] [] (p ∙ k.0) (rw k.1)
+told_by_map call b (Ok s) r (Ok a) P h m p f = let k = f s a m in told call b s h [] [] (p ∙ packed_unpadded _ _ _ _ _ k.1 ∙ k.0) (rw k.2)
 told_by_map call b (Ok s) r (Err e) P h m p f = absurd m

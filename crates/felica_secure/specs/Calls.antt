@@ -3,7 +3,7 @@
 use Rattle.std.specs.Prelude.{ℕ, Bool, true, ◌≡◌, List, [], ◌∷◌, eqb, length}
 use Rattle.answer.specs.Outcome.{Outcome, Row, row, choose, decide, accepted, over}
 use Rattle.answer.specs.Tests.{isnt}
-use Rattle.felica_secure.specs.Packed.{packed, Returns}
+use Rattle.felica_secure.specs.Packed.{packed, packed_sealed, Returns}
 
 -- a state as bytes: their exact size, the bytes of a state, the state of bytes, and whether bytes are a state
 pub record Kept (S : Type 0) : Type 0 where
@@ -20,7 +20,7 @@ pub record Call (S : Type 0) : Type 0 where
 
 -- an outcome as C gets it
 unfoldable pub answering : {S : Type 0} → Outcome → S → Call S
-answering o s = record { answer = packed o.number 0 (length o.bytes) o.transaction; bytes = o.bytes; state = s }
+answering o s = record { answer = packed_sealed o.number 0 (length o.bytes) o.transaction o.padding; bytes = o.bytes; state = s }
 
 -- a call that tells one value: a mark, an index or count, a number
 unfoldable pub telling : {S : Type 0} → ℕ → ℕ → ℕ → S → Call S

@@ -10,7 +10,7 @@ ghost use Rattle.frame.specs.Trimmed.{trimmed_opening};
 
 use crate::pack;
 
-// Seals a command.
+// Seals a command. The answer has the padding.
 #[unsafe(no_mangle)]
 pub extern "C" fn felica_encrypt_command(
     scheme: u8,
@@ -41,7 +41,7 @@ pub extern "C" fn felica_decrypt_response(
     pack::pack(frame::decrypt_response(scheme, code, id, credentials, data, out))
 }
 
-// Makes a response frame.
+// Makes a response frame. The answer has the padding.
 #[unsafe(no_mangle)]
 pub extern "C" fn felica_build_secure_response_frame(
     scheme: u8,
@@ -87,7 +87,7 @@ pub extern "C" fn felica_decrypt_response_trimmed_des(
     pack::pack(frame::decrypt_secure_response_trimmed_des(code, id, key, data, out))
 }
 
-// Seals a DES Authentication 2 payload.
+// Seals a DES Authentication 2 payload. The answer has the padding.
 #[unsafe(no_mangle)]
 pub extern "C" fn felica_encrypt_authentication2_payload_des(
     key: &[u8],

@@ -1,7 +1,7 @@
 // Answers as C gets them: one number of 64 bits (specs/Packed).
 ghost use Rattle.std.specs.Prelude.{◌≡◌};
-ghost use Rattle.answer.specs.Outcome.{answer_number, answer_length, answer_transaction};
-ghost use Rattle.felica_secure.specs.Packed.{packed};
+ghost use Rattle.answer.specs.Outcome.{answer_number, answer_length, answer_transaction, answer_padding};
+ghost use Rattle.felica_secure.specs.Packed.{packed, packed_sealed};
 
 use answer::Answer;
 
@@ -16,10 +16,13 @@ pub(crate) fn pack_all(number: u8, scheme: u8, length: u16, value: u16) -> u64
 
 // An answer as C gets it.
 pub(crate) fn pack(answer: Answer) -> u64
-    ensures { result ≡ packed (answer_number answer) 0 (answer_length answer) (answer_transaction answer) }
+    ensures { result ≡ packed_sealed (answer_number answer) 0 (answer_length answer) (answer_transaction answer) (answer_padding answer) }
 {
     match answer {
-        Ok(accepted) => pack_all(0, 0, accepted.length, accepted.transaction_number),
+        Ok(accepted) => {
+            let padding = u64::from(accepted.padding) * 0x1_0000_0000_0000;
+            pack_all(0, 0, accepted.length, accepted.transaction_number) + padding
+        }
         Err(refusal) => pack_all(refusal.number(), 0, 0, 0),
     }
 }

@@ -198,7 +198,7 @@ pub extern "C" fn felica_session_transaction_id(session: &[u8], out: &mut [u8]) 
     pack::pack(tell(
         session,
         out,
-        |context, out| answer::deliver(0, &context.transaction_id(), out),
+        |context, out| answer::deliver(0, 0, &context.transaction_id(), out),
     ))
 }
 
@@ -210,6 +210,6 @@ pub extern "C" fn felica_session_nodes(session: &[u8], out: &mut [u8]) -> u64
     pack::pack(tell(
         session,
         out,
-        |context, out| answer::deliver(0, context.listed_nodes(), out),
+        |context, out| answer::deliver(0, 0, context.listed_nodes(), out),
     ))
 }

@@ -19,8 +19,8 @@ use Rattle.answer.specs.declared.refusal.Refusal.{Refusal}
 use Rattle.answer.specs.declared.refusal.Refusal.TheVariants.{TooShort, TooLong}
 use Rattle.answer.specs.Refusal.{refusal_number}
 use Rattle.std.specs.Prelude.{Err}
-use Rattle.answer.specs.Outcome.{Answer, Meets, Row, refused, accepted, row, choose, decide, first_of}
-use Rattle.answer.specs.Delivery.{delivering, Delivers}
+use Rattle.answer.specs.Outcome.{Answer, Meets, Row, refused, acceptance, accepted, row, choose, decide, first_of}
+use Rattle.answer.specs.Delivery.{handing, delivering, Delivers}
 use Rattle.frame.specs.AesFrame.{cipher_key, mac_key, challenge_3c, aes_iv, aes_mac, mac_input, opened_iv, opened_payload, opened_mac, aes_opening, aes_open_rows}
 use Rattle.frame.specs.inner.AesSteps.{aes_accepting, aes_trying}
 use Rattle.answer.specs.Tests.{isnt, either, same}
@@ -109,7 +109,7 @@ module _ (code number : ℕ) (id c sealed mac z : List ℕ) (small : number < 65
 module _ (c id d : List ℕ) (code room : ℕ) where
   -- the rows by lengths alone, then the others
   aes_open_steps : aes_opening c code id d room ≡ decide (aes_open_rows (length id) (length c) (length d)) (aes_trying c code id d room)
-  unfolding aes_opening aes_open_rows aes_trying aes_accepting delivering decide
+  unfolding aes_opening aes_open_rows aes_trying aes_accepting handing acceptance decide
   aes_open_steps = refl
 
   -- one of them holds
@@ -140,5 +140,5 @@ module _ (c id d : List ℕ) (code room : ℕ) where
       ++ (row 13 (isnt (same (opened_mac c code id d) (aes_mac (mac_key c) (opened_iv c code id d) (opened_payload c code id d)))) ∷ row 16 (ltb room (length (opened_payload c code id d))) ∷ [])
 
   pub by_rows : aes_opening c code id d room ≡ decide all_rows (accepted (number_of d) (opened_payload c code id d))
-  unfolding aes_opening aes_open_rows delivering decide
+  unfolding aes_opening aes_open_rows handing acceptance decide
   by_rows = refl

@@ -21,7 +21,7 @@ use Rattle.answer.specs.Tests.{isnt, either, same}
 use Rattle.frame.specs.AesFrame.{cipher_key, mac_key, challenge_3c, aes_iv, aes_mac, mac_input, aes_sealed, aes_size, opened_iv, opened_payload, opened_mac, aes_open_rows, aes_opening}
 use Rattle.frame.proofs.AesOpens.{all_rows, by_rows}
 use Rattle.answer.proofs.Rows.{AllFalse, decide_false, isnt_false, either_false}
-use Rattle.answer.proofs.Refusals.{zero_passes, accepted_zero, accepted_number, accepted_bytes, isnt_of, either_of, same_of}
+use Rattle.answer.proofs.Refusals.{zero_passes, acceptance_zero, accepted_number, accepted_bytes, isnt_of, either_of, same_of}
 use Rattle.answer.proofs.Equality.{same_equal}
 
 -- ---- pieces
@@ -346,7 +346,7 @@ module _ (c id : List ℕ) (code room : ℕ) (hc : length c ≡ 36) (bc : Bytes 
   pub aes_sealed_lem : (d : List ℕ) → Bytes d → (number : ℕ) (payload : List ℕ) → aes_opening c code id d room ≡ accepted number payload
       → AesDomain number payload × (length payload ≤ room) × (d ≡ aes_sealed c code number id payload)
   aes_sealed_lem d bd number payload e =
-      let z : (aes_opening c code id d room).number ≡ 0 = ap (λ (o : Outcome). o.number) e ∙ accepted_zero number payload in
+      let z : (aes_opening c code id d room).number ≡ 0 = ap (λ (o : Outcome). o.number) e ∙ acceptance_zero number 0 payload in
       let a = sym (aes_answer c id d code room bc bi ho bd z) ∙ e in
       let n : get_or d 0 0 + get_or d 1 0 * 256 ≡ number = accepted_number _ _ _ _ a in
       let q : opened_payload c code id d ≡ payload = accepted_bytes _ _ _ _ a in
@@ -366,6 +366,6 @@ module _ (c id : List ℕ) (code room : ℕ) (hc : length c ≡ 36) (bc : Bytes 
   pub aes_refuses_exactly : (d : List ℕ) → Bytes d
       → ((aes_opening c code id d room).number ≡ 0 → ⊥) ↔ ((number : ℕ) (payload : List ℕ) → AesDomain number payload → length payload ≤ room → d ≡ aes_sealed c code number id payload → ⊥)
   aes_refuses_exactly d bd = (
-    λ refusal number payload dom l e. refusal (ap (λ (x : List ℕ). (aes_opening c code id x room).number) e ∙ ap (λ (o : Outcome). o.number) (aes_opens number payload dom l) ∙ accepted_zero number payload),
+    λ refusal number payload dom l e. refusal (ap (λ (x : List ℕ). (aes_opening c code id x room).number) e ∙ ap (λ (o : Outcome). o.number) (aes_opens number payload dom l) ∙ acceptance_zero number 0 payload),
     λ nothing z. nothing (get_or d 0 0 + get_or d 1 0 * 256) (opened_payload c code id d) (aes_in_domain c id d code room bc bi ho bd z) (aes_fits c id d code room bc bi ho bd z) (aes_was_sealed c id d code room bc bi ho bd z),
   )

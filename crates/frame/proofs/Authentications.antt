@@ -5,15 +5,16 @@ use mathlib.Core.List.{List, [], ◌∷◌}
 use Prim.Native.Nat.{ℕ, ◌+◌, ◌-◌, ◌%◌, ◌≤◌, ◌<◌}
 use native.Mathlib.Omega.{arith}
 use borrow.Author.Tests.{lt-ltb, le-ltb}
-use lib.Dec.{ltb}
+use lib.Dec.{ltb, lit<}
 use lib.ListN.{length, take}
 use Rattle.frame.specs.Authentication2.{auth2_code, auth2_sealed, auth2_size, auth2_seal_rows, auth2_sealing, auth2_open_rows, auth2_accepting}
 use Rattle.answer.specs.Delivery.{delivering, Delivers}
 use Rattle.frame.specs.DesFrame.{mac_holds}
-use Rattle.answer.specs.Outcome.{Answer, Meets, refused, accepted, row, choose, decide}
+use Rattle.answer.specs.Outcome.{Answer, Meets, refused, padded, row, choose, decide}
 use Rattle.frame.specs.Padding.{pad_count}
 use Rattle.answer.specs.Tests.{isnt, either}
-use Rattle.answer.proofs.Rows.{AllFalse, right_length, decided_meets}
+use Rattle.answer.proofs.Rows.{AllFalse, decide_false, right_length, decided_meets}
+use Rattle.answer.proofs.Refusals.{Whole, zero_passes, acceptance_whole, decide_whole}
 use Rattle.answer.proofs.Pieces.{no_longer}
 
 -- ---- sealing
@@ -24,9 +25,18 @@ short_padded n h = omega arith
 
 -- the rows by lengths alone, then 16
 pub auth2_seal_steps : (key payload : List ℕ) (room : ℕ)
-    → auth2_sealing key payload room ≡ decide (auth2_seal_rows (length key) (length payload)) (decide (row 16 (ltb room (auth2_size (length payload))) ∷ []) (accepted 0 (auth2_sealed key payload)))
+    → auth2_sealing key payload room ≡ decide (auth2_seal_rows (length key) (length payload)) (decide (row 16 (ltb room (auth2_size (length payload))) ∷ []) (padded (pad_count (length payload)) (auth2_sealed key payload)))
 unfolding auth2_sealing auth2_seal_rows decide
 auth2_seal_steps key payload room = refl
+
+pub auth2_seal_whole : (key payload : List ℕ) (room : ℕ) → Whole (auth2_sealing key payload room)
+unfolding auth2_sealing
+auth2_seal_whole key payload room = decide_whole _ _ (acceptance_whole 0 _ _)
+
+-- where it answers 0, it answers with the sealed data
+pub auth2_seals_only : (key payload : List ℕ) (room : ℕ) → (auth2_sealing key payload room).number ≡ 0 → auth2_sealing key payload room ≡ padded (pad_count (length payload)) (auth2_sealed key payload)
+unfolding auth2_sealing auth2_seal_rows
+auth2_seals_only key payload room z = decide_false _ _ (zero_passes _ _ (lit< tt, (lit< tt, (lit< tt, tt))) z)
 
 -- ---- opening
 

@@ -13,7 +13,7 @@ use Rattle.answer.specs.Number.{number_bytes}
 use Rattle.answer.specs.Outcome.{Outcome, refused, choose, decide}
 use Rattle.frame.specs.Padding.{pad_count, pad}
 use Rattle.frame.proofs.DesSeals.{size_most}
-use Rattle.answer.proofs.Refusals.{isnt_of, either_of, accepted_zero}
+use Rattle.answer.proofs.Refusals.{isnt_of, either_of, acceptance_zero}
 use Rattle.frame.proofs.Sealing.{des_seals}
 
 -- what a string of n bytes gains
@@ -50,7 +50,7 @@ module _ (key id payload : List ℕ) (code number room : ℕ) (hk : length key �
   pub size_232 : length payload ≡ 232 → 248 ≤ room → (des_sealing key code number id payload room).number ≡ 0
   size_232 e h =
       let f : des_size (length payload) ≤ room = let l = size_most (length payload) (omega arith) in omega arith in
-      ap (λ (o : Outcome). o.number) (des_seals id payload code number room key (record { six = hi; all = hk; short = omega arith; fits = f })) ∙ accepted_zero 0 _
+      ap (λ (o : Outcome). o.number) (des_seals id payload code number room key (record { six = hi; all = hk; short = omega arith; fits = f })) ∙ acceptance_zero 0 _ _
 
   pub size_233 : length payload ≡ 233 → (des_sealing key code number id payload room).number ≡ 12
   unfolding des_sealing seal_rows decide choose refused

@@ -14,8 +14,8 @@ use Rattle.answer.specs.Number.{number_of}
 use Rattle.std.specs.Prelude.{Err}
 use Rattle.answer.specs.declared.refusal.Refusal.{Refusal}
 use Rattle.answer.specs.Refusal.{refusal_number}
-use Rattle.answer.specs.Outcome.{Answer, Meets, Row, row, accepted, decide, choose, refused, first_of}
-use Rattle.answer.specs.Delivery.{delivering, Delivers}
+use Rattle.answer.specs.Outcome.{Answer, Meets, Row, row, acceptance, accepted, decide, choose, refused, first_of}
+use Rattle.answer.specs.Delivery.{handing, delivering, Delivers}
 use Rattle.frame.specs.DesFrame.{mac_start, recovered, mac_holds, des_plain, payload_of, des_opening, open_rows, plain_rows}
 use Rattle.frame.specs.inner.DesSteps.{des_accepting}
 use Rattle.frame.specs.inner.Response.{checked_delivering, parsed_delivering}
@@ -87,7 +87,7 @@ accepting_meets code id plain room {r} {before} {after} d h =
 
 -- the rows by lengths alone, then those of the plain text
 pub open_steps : (key id sealed : List ℕ) (code room : ℕ) → des_opening key code id sealed room ≡ decide (open_rows (length id) (length key) (length sealed)) (des_accepting code id (des_plain key sealed) room)
-unfolding des_opening open_rows des_accepting plain_rows delivering decide
+unfolding des_opening open_rows des_accepting plain_rows handing acceptance decide
 open_steps key id sealed code room = refl
 
 -- one of them holds
@@ -101,5 +101,5 @@ module _ (key id sealed : List ℕ) (code room : ℕ) where
   all_rows = open_rows (length id) (length key) (length sealed) ++ (plain_rows code id (des_plain key sealed) ++ (row 16 (ltb room (length (payload_of (des_plain key sealed)))) ∷ []))
 
   pub by_rows : des_opening key code id sealed room ≡ decide all_rows (accepted (number_of (des_plain key sealed)) (payload_of (des_plain key sealed)))
-  unfolding des_opening open_rows plain_rows delivering decide
+  unfolding des_opening open_rows plain_rows handing acceptance decide
   by_rows = refl

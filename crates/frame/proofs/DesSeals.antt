@@ -9,7 +9,7 @@ use lib.Seq.{length-take-le}
 use Rattle.cipher.specs.Fips46.{des_encrypt}
 use Rattle.cipher.specs.Sp80038a.{cbc_encrypt, on_whole}
 use Rattle.cipher.proofs.Copies.{length_part}
-use Rattle.answer.specs.Outcome.{over, accepted, row, decide}
+use Rattle.answer.specs.Outcome.{over, padded, row, decide}
 use Rattle.frame.specs.Padding.{pad_count, pad}
 use Rattle.frame.specs.DesFrame.{des_mac, des_seal, header, des_sealed, des_size, des_sealing, seal_rows}
 use Rattle.answer.proofs.Outputs.{front, over_self, over_over, filled_behind}
@@ -78,16 +78,16 @@ sealed_over code n r key b o s s' l e h =
 -- header and payload were written, and sealed in place
 pub written_des : (code number r : ℕ) (key id payload o s s' : List ℕ) → length id ≡ 6 → s ≡ over (header number id ++ payload) o
     → (r ≡ length payload + 8 + pad_count (length payload + 8) + 8) × (r ≡ length (des_seal key code (pad (take (length payload + 8) s)))) × (s' ≡ over (des_seal key code (pad (take (length payload + 8) s))) s)
-    → (des_size (length payload) ≡ length (des_sealed key code number id payload)) × (s' ≡ over (des_sealed key code number id payload) o)
+    → (r ≡ des_size (length payload)) × (des_size (length payload) ≡ length (des_sealed key code number id payload)) × (s' ≡ over (des_sealed key code number id payload) o)
 unfolding des_size des_sealed
 written_des code number r key id payload o s s' six e h =
     let k : length (header number id) ≡ 8 = length_header number id six in
     let l : length (header number id ++ payload) ≡ length payload + 8 = length-append (header number id) payload ∙ omega arith in
     let q = sealed_over code (length payload + 8) r key (header number id ++ payload) o s s' l e h in
-    (sym h.0 ∙ q.0, q.1)
+    (h.0, sym h.0 ∙ q.0, q.1)
 
 -- the rows by lengths alone, then 16
 pub seal_steps : (key id payload : List ℕ) (code number room : ℕ)
-    → des_sealing key code number id payload room ≡ decide (seal_rows (length id) (length key) (length payload)) (decide (row 16 (ltb room (des_size (length payload))) ∷ []) (accepted 0 (des_sealed key code number id payload)))
+    → des_sealing key code number id payload room ≡ decide (seal_rows (length id) (length key) (length payload)) (decide (row 16 (ltb room (des_size (length payload))) ∷ []) (padded (pad_count (length payload + 8)) (des_sealed key code number id payload)))
 unfolding des_sealing seal_rows decide
 seal_steps key id payload code number room = refl

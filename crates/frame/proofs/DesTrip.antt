@@ -25,7 +25,7 @@ use Rattle.frame.proofs.DesOpens.{all_rows, by_rows}
 use Rattle.frame.proofs.DesSeals.{length_header}
 use Rattle.frame.proofs.Pads.{length_pad, pad_count_small, pad_count_whole, pad_count_header, pad_none, pad_after, Bytes-pad}
 use Rattle.answer.proofs.Rows.{AllFalse, decide_false, isnt_false, either_false}
-use Rattle.answer.proofs.Refusals.{zero_passes, accepted_zero, accepted_number, accepted_bytes, isnt_of, either_of, same_of}
+use Rattle.answer.proofs.Refusals.{zero_passes, acceptance_zero, accepted_number, accepted_bytes, isnt_of, either_of, same_of}
 use Rattle.answer.proofs.Equality.{same_equal}
 
 -- ---- pieces
@@ -72,6 +72,14 @@ pub id_header : (number : ℕ) (id rest : List ℕ) → length id ≡ 6 → id_o
 unfolding id_of header
 id_header number id rest h = take_at id rest 6 h
 
+-- what is sealed gains its MAC
+pub length_des_seal : (key : List ℕ) (code : ℕ) (plain : List ℕ) → length plain % 8 ≡ 0 → length (des_seal key code plain) ≡ length plain + 8
+unfolding des_seal
+length_des_seal key code plain h =
+    let full : List ℕ = plain ++ des_mac code plain in
+    let l : length full ≡ length plain + 8 = length-append plain (des_mac code plain) ∙ ap (λ (k : ℕ). length plain + k) (length_des_mac code plain) in
+    length_des_cbc key full (length full / 8) (omega arith) ∙ l
+
 -- ---- the parts of sealed data, and its size: they go by the lengths of key and ID alone
 
 module _ (key id payload : List ℕ) (code number : ℕ) (hk : length key ≡ 8) (hi : length id ≡ 6) where
@@ -102,7 +110,9 @@ module _ (key id payload : List ℕ) (code number : ℕ) (hk : length key ≡ 8)
   sealed_is = ap (λ (p : List ℕ). cbc_encrypt (des_encrypt key) 8 (replicate 8 0) (p ++ des_mac code p)) plain_is
 
   sealed_long : length (des_sealed key code number id payload) ≡ 16 + (length payload + pad_count (length payload))
-  sealed_long = ap length sealed_is ∙ length_des_cbc key full (length full / 8) full_blocks ∙ full_long
+  unfolding des_sealed
+  sealed_long =
+      ap (λ (p : List ℕ). length (des_seal key code p)) plain_is ∙ length_des_seal key code plain (omega (arith, plain_long, pad_count_whole (length payload))) ∙ omega (arith, plain_long)
 
   pub des_sealed_long : length (des_sealed key code number id payload) ≡ des_size (length payload)
   unfolding des_size
@@ -313,7 +323,7 @@ module _ (key id : List ℕ) (code room : ℕ) (hk : length key ≡ 8) (hi : len
   pub des_sealed_lem : (d : List ℕ) → Bytes d → (number : ℕ) (payload : List ℕ) → des_opening key code id d room ≡ accepted number payload
       → DesDomain number payload × (length payload ≤ room) × (d ≡ des_sealed key code number id payload)
   des_sealed_lem d bd number payload e =
-      let z : (des_opening key code id d room).number ≡ 0 = ap (λ (o : Outcome). o.number) e ∙ accepted_zero number payload in
+      let z : (des_opening key code id d room).number ≡ 0 = ap (λ (o : Outcome). o.number) e ∙ acceptance_zero number 0 payload in
       let a = sym (des_answer key id d code room hc bd z) ∙ e in
       let n : number_of (des_plain key d) ≡ number = accepted_number _ _ _ _ a in
       let q : payload_of (des_plain key d) ≡ payload = accepted_bytes _ _ _ _ a in (
@@ -337,7 +347,7 @@ module _ (key id : List ℕ) (code room : ℕ) (hk : length key ≡ 8) (hi : len
   pub des_refuses_exactly : (d : List ℕ) → Bytes d
       → ((des_opening key code id d room).number ≡ 0 → ⊥) ↔ ((number : ℕ) (payload : List ℕ) → DesDomain number payload → length payload ≤ room → d ≡ des_sealed key code number id payload → ⊥)
   des_refuses_exactly d bd = (
-    λ refusal number payload dom l e. refusal (ap (λ (x : List ℕ). (des_opening key code id x room).number) e ∙ ap (λ (o : Outcome). o.number) (des_opens number payload dom l) ∙ accepted_zero number payload),
+    λ refusal number payload dom l e. refusal (ap (λ (x : List ℕ). (des_opening key code id x room).number) e ∙ ap (λ (o : Outcome). o.number) (des_opens number payload dom l) ∙ acceptance_zero number 0 payload),
     λ nothing z. nothing (number_of (des_plain key d)) (payload_of (des_plain key d))
         (record { small = des_number key id d code room hc bd z; short = des_payload_short key id d code room hc bd z; whole = des_payload_whole key id d code room hc bd z; bytes = des_payload_bytes key id d code room hc bd z })
         (des_fits key id d code room hc bd z)

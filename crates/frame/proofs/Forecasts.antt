@@ -8,9 +8,9 @@ use native.Mathlib.Omega.{arith}
 use lib.Dec.{eqb}
 use lib.ListN.{length}
 use Rattle.cipher.proofs.Numbers.{le_or_lt}
-use Rattle.answer.specs.Outcome.{Outcome, accepted, choose, first_of}
+use Rattle.answer.specs.Outcome.{Outcome, acceptance, choose, first_of}
 use Rattle.answer.specs.Tests.{isnt, either}
-use Rattle.answer.proofs.Refusals.{refused_number, accepted_zero}
+use Rattle.answer.proofs.Refusals.{refused_number, acceptance_zero}
 use Rattle.frame.specs.AesFrame.{aes_size}
 use Rattle.frame.specs.DesFrame.{des_size}
 use Rattle.frame.specs.Forecast.{up_to_eights, forecast_size, forecast_rows, forecasting}
@@ -37,7 +37,7 @@ module _ (scheme : ℕ) (c id payload : List ℕ) (code number room : ℕ) where
   -- where sealing answers 0, the forecast answers 0 with the length of the bytes that sealing wrote
   pub forecast_exact : (sealing scheme c code number id payload room).number ≡ 0
       → ((forecasting scheme (length payload)).number ≡ 0) × ((forecasting scheme (length payload)).size ≡ length (sealing scheme c code number id payload room).bytes)
-  unfolding accepted
+  unfolding acceptance
   forecast_exact z =
       let known = sealing_known scheme c id payload code number room z in
       let s = seals_only scheme c id payload code number room known z in
@@ -56,7 +56,7 @@ module _ (scheme : ℕ) (c id payload : List ℕ) (code number room : ℕ) where
     by_room short =
         ⊎_elim
         (λ (h : sealed_size scheme (length payload) ≤ room).
-        inl (h, ap (λ (o : Outcome). o.number) (seals scheme c id payload code number room known six all short h) ∙ accepted_zero 0 _))
+        inl (h, ap (λ (o : Outcome). o.number) (seals scheme c id payload code number room known six all short h) ∙ acceptance_zero 0 _ _))
         (λ (h : room < sealed_size scheme (length payload)).
         inr (h, ap (λ (o : Outcome). o.number) (seals_16 scheme c id payload code number room known six all short h) ∙ refused_number 16))
         (le_or_lt (sealed_size scheme (length payload)) room)
@@ -114,7 +114,7 @@ module _ (scheme : ℕ) (c id payload : List ℕ) (code number room : ℕ) where
 -- a response frame has two bytes more: where it is made, the forecast answers 0
 pub forecast_frame : (scheme : ℕ) (c id payload : List ℕ) (code number room : ℕ) → (responding scheme c code number id payload room).number ≡ 0
     → ((forecasting scheme (length payload)).number ≡ 0) × (length (responding scheme c code number id payload room).bytes ≡ (forecasting scheme (length payload)).size + 2)
-unfolding accepted
+unfolding acceptance
 forecast_frame scheme c id payload code number room z =
     let f = forecast_exact scheme c id payload code number (room - 2) (sealed_before scheme c id code number room payload z) in (
       f.0,

@@ -12,21 +12,29 @@ use lib.ListN.{length, drop, get_or}
 use Rattle.cipher.specs.Bytes.{Bytes}
 use Rattle.cipher.proofs.Numbers.{le_or_lt}
 use Rattle.answer.specs.Number.{number_of}
-use Rattle.answer.specs.Outcome.{Outcome, refused, accepted, choose}
+use Rattle.answer.specs.Outcome.{Outcome, refused, acceptance, accepted, padded, choose}
 use Rattle.frame.specs.AesFrame.{aes_size, opened_payload}
 use Rattle.frame.specs.DesFrame.{des_size, des_plain, payload_of}
 use Rattle.frame.specs.Inverse.{Domain, TooLarge, Frames}
 use Rattle.frame.specs.Padding.{pad, pad_count}
-use Rattle.frame.specs.Scheme.{by_scheme, sealed, sealing, opening, framed, responding, sealed_size, longest}
+use Rattle.frame.specs.Scheme.{by_scheme, sealed, sealing, opening, framed, responding, sealed_size, sealed_padding, longest}
 use Rattle.frame.proofs.AesTrip.{AesDomain, aes_opens, aes_opens_exactly, aes_refuses_exactly, aes_sealed_long}
 use Rattle.frame.proofs.DesSeals.{size_most}
 use Rattle.frame.proofs.DesTrip.{DesDomain, des_opens_padded, des_opens, des_opens_exactly, des_refuses_exactly, des_sealed_long}
 use Rattle.answer.proofs.Refusals.{refused_number}
-use Rattle.frame.proofs.Pads.{pad_count_small, length_pad}
+use Rattle.frame.proofs.Pads.{pad_count_small, sealed_padding_none, length_pad}
 use Rattle.frame.proofs.Rooms.{des_short_room, des_means_short, aes_short_room, aes_means_short}
 use Rattle.frame.proofs.Schemes.{sealing_known}
 use Rattle.frame.proofs.WorkBlocks.{framing_accepted, framing_refused}
 use Rattle.frame.proofs.Sealing.{seals, seals_16, seals_only}
+
+-- ---- sealing in the domain adds no padding
+
+whole_sealed : (scheme : ℕ) (c id payload : List ℕ) (code number room : ℕ) → Domain scheme number payload
+    → sealing scheme c code number id payload room ≡ padded (sealed_padding scheme (length payload)) (sealed scheme c code number id payload)
+    → sealing scheme c code number id payload room ≡ accepted 0 (sealed scheme c code number id payload)
+whole_sealed scheme c id payload code number room h e =
+    e ∙ ap (λ (p : ℕ). padded p (sealed scheme c code number id payload)) (sealed_padding_none scheme (length payload) h.whole)
 
 -- ---- from what opens where there is room
 
@@ -104,7 +112,7 @@ module _ (c id : List ℕ) (code : ℕ) (hk : length c ≡ 8) (hi : length id �
   unfolding sealing by_scheme sealed sealed_size longest choose
   des_frames =
       record {
-        seals = λ number room payload h l. seals 1 c id payload code number room (inl refl) hi hk h.short l;
+        seals = λ number room payload h l. whole_sealed 1 c id payload code number room h (seals 1 c id payload code number room (inl refl) hi hk h.short l);
         seals_not = λ number room payload h l. seals_16 1 c id payload code number room (inl refl) hi hk h.short l;
         size = λ number payload h. des_sealed_long c id payload code number hk hi;
         opens_exactly = λ d room bd n. exactly_here 1 c id d code room (des_exactly d room bd) (des_refuses d room bd) (des_short d room bd) n;
@@ -152,7 +160,7 @@ module _ (c id : List ℕ) (code : ℕ) (hc : length c ≡ 36) (bc : Bytes c) (h
   unfolding sealing by_scheme sealed sealed_size longest choose
   aes_frames =
       record {
-        seals = λ number room payload h l. seals 2 c id payload code number room (inr refl) hi hc h.short l;
+        seals = λ number room payload h l. whole_sealed 2 c id payload code number room h (seals 2 c id payload code number room (inr refl) hi hc h.short l);
         seals_not = λ number room payload h l. seals_16 2 c id payload code number room (inr refl) hi hc h.short l;
         size = λ number payload h. aes_sealed_long c id payload code number hc hi;
         opens_exactly = λ d room bd n. exactly_here 2 c id d code room (aes_exactly d room bd) (aes_refuses d room bd) (aes_short d room bd) n;
@@ -205,10 +213,10 @@ length_framed code l = omega arith
 module _ (scheme : ℕ) (c id : List ℕ) (code : ℕ) (f : Frames scheme c id code) where
   pub responds : (number room : ℕ) (payload : List ℕ) → Domain scheme number payload → sealed_size scheme (length payload) + 2 ≤ room
       → responding scheme c code number id payload room ≡ accepted 0 (framed code (sealed scheme c code number id payload))
-  unfolding responding accepted
+  unfolding responding acceptance
   responds number room payload h l =
       let e = f.seals number (room - 2) payload h (omega arith) in
-      framing_accepted code _ (ap (λ (o : Outcome). o.number) e) ∙ ap (λ (o : Outcome). accepted 0 (framed code o.bytes)) e
+      framing_accepted code _ (ap (λ (o : Outcome). o.number) e) ∙ ap (λ (o : Outcome). padded o.padding (framed code o.bytes)) e
 
   pub responds_not : (number room : ℕ) (payload : List ℕ) → Domain scheme number payload → 0 < sealed_size scheme (length payload) → room < sealed_size scheme (length payload) + 2
       → responding scheme c code number id payload room ≡ refused 16
@@ -231,14 +239,14 @@ size_some scheme n = choose_some (eqb scheme 1) (n + 8 + pad_count (n + 8) + 8) 
 
 module _ (c id : List ℕ) (code : ℕ) (bc : Bytes c) (bi : Bytes id) (ho : code < 256) (number room : ℕ) (payload : List ℕ) (hn : number < 65536) (bp : Bytes payload) where
   des_again : (sealing 1 c code number id payload room).number ≡ 0 → (opening 1 c code id (sealing 1 c code number id payload room).bytes 256).number ≡ 0
-  unfolding opening by_scheme sealed longest choose accepted
+  unfolding opening by_scheme sealed longest choose acceptance
   des_again z =
       let s = seals_only 1 c id payload code number room (inl refl) z in
       let l : length (pad payload) ≤ 256 = omega (arith, length_pad payload, pad_count_small (length payload), s.short) in
       rw (seals 1 c id payload code number room (inl refl) s.six s.all s.short s.fits) (ap (λ (o : Outcome). o.number) (des_opens_padded c id payload code number s.all s.six bi ho hn s.short bp 256 l))
 
   aes_again : (sealing 2 c code number id payload room).number ≡ 0 → (opening 2 c code id (sealing 2 c code number id payload room).bytes 256).number ≡ 0
-  unfolding opening by_scheme sealed longest choose accepted
+  unfolding opening by_scheme sealed longest choose acceptance
   aes_again z =
       let s = seals_only 2 c id payload code number room (inr refl) z in
       let l : length payload ≤ 256 = omega (arith, s.short) in
@@ -263,14 +271,14 @@ module _ (scheme : ℕ) (c id : List ℕ) (code number room : ℕ) (payload : Li
       (λ (l : o.number < 1). omega arith)
       (le_or_lt 1 o.number)
 
-  pub is_framed : responding scheme c code number id payload room ≡ accepted 0 (framed code (sealing scheme c code number id payload (room - 2)).bytes)
+  pub is_framed : responding scheme c code number id payload room ≡ padded (sealing scheme c code number id payload (room - 2)).padding (framed code (sealing scheme c code number id payload (room - 2)).bytes)
   unfolding responding
   is_framed = framing_accepted code _ sealed_before
 
   pub frame_least : 2 ≤ length (responding scheme c code number id payload room).bytes
-  unfolding accepted framed
+  unfolding acceptance framed
   frame_least = rw is_framed (omega arith)
 
   pub frame_opens_again : Bytes c → Bytes id → code < 256 → number < 65536 → Bytes payload → (opening scheme c code id (drop 2 (responding scheme c code number id payload room).bytes) 256).number ≡ 0
-  unfolding accepted framed
+  unfolding acceptance framed
   frame_opens_again bc bi ho hn bp = rw is_framed (opens_again c id code bc bi ho number (room - 2) payload hn bp scheme sealed_before)

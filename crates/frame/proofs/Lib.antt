@@ -11,6 +11,7 @@
 -- Fronts: the front of an output, lent to a call that works on whole blocks
 -- Ids: two transaction IDs are equal if their numbers are
 -- MacBits: the DES MAC never sees the lowest bit of a byte
+-- Paddings: the padding that an answer tells, and the payload's length from the size
 -- Pads: padding
 -- RegistrationPackage: registration packages, step by step
 -- Responses: a parsed response and its delivery
@@ -33,6 +34,7 @@ pub mod Fronts
 pub mod Ids
 pub mod MacBits
 pub mod RegistrationPackage
+pub mod Paddings
 pub mod Pads
 pub mod Responses
 pub mod Rooms

@@ -1,13 +1,18 @@
 -- The laws of padding (specs/Padding). Assumes nothing.
-use mathlib.Core.Path.{◌≡◌, ap, ◌∙◌}
+use mathlib.Core.Path.{◌≡◌, refl, ap, ◌∙◌}
+use mathlib.Core.Bool.{Bool, true, false}
 use mathlib.Core.List.{List, ◌++◌, append-nil, append_assoc}
 use Prim.Native.Nat.{ℕ, ◌+◌, ◌%◌, ◌≤◌, ◌<◌}
 use native.Mathlib.Omega.{arith}
+use borrow.Author.Tests.{eqb-true}
+use lib.Dec.{eqb}
 use lib.ListN.{length, replicate, length-append, length-replicate}
 use Rattle.std.specs.Prelude.{◌≢◌}
 use Rattle.cipher.specs.Bytes.{Bytes}
+use Rattle.answer.specs.Outcome.{choose}
 use Rattle.cipher.proofs.ByteLists.{Bytes-append, Bytes-replicate}
 use Rattle.frame.specs.Padding.{pad_count, pad}
+use Rattle.frame.specs.Scheme.{sealed_padding}
 
 pub pad_count_small : (n : ℕ) → pad_count n < 8
 unfolding pad_count
@@ -28,6 +33,21 @@ pad_count_none n h = omega arith
 pub pad_count_header : (n : ℕ) → pad_count (8 + n) ≡ pad_count n
 unfolding pad_count
 pad_count_header n = omega arith
+
+-- by scheme: whole blocks have none
+pub sealed_padding_none : (scheme n : ℕ) → (scheme ≡ 1 → n % 8 ≡ 0) → sealed_padding scheme n ≡ 0
+unfolding sealed_padding choose
+sealed_padding_none scheme n h = by (eqb scheme 1) refl where
+  by : (b : Bool) → eqb scheme 1 ≡ b → choose b (pad_count (n + 8)) 0 ≡ 0
+  by true e = let w : n % 8 ≡ 0 = h (eqb-true scheme 1 e) in pad_count_none (n + 8) (omega arith)
+  by false e = refl
+
+pub sealed_padding_small : (scheme n : ℕ) → sealed_padding scheme n < 8
+unfolding sealed_padding choose
+sealed_padding_small scheme n = by (eqb scheme 1) where
+  by : (b : Bool) → choose b (pad_count (n + 8)) 0 < 8
+  by true = pad_count_small (n + 8)
+  by false = omega arith
 
 pub length_pad : (l : List ℕ) → length (pad l) ≡ length l + pad_count (length l)
 unfolding pad

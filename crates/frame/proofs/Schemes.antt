@@ -12,15 +12,15 @@ use Rattle.std.specs.Prelude.{Err, ◌≢◌}
 use Rattle.answer.specs.declared.refusal.Refusal.{Refusal}
 use Rattle.answer.specs.declared.refusal.Refusal.TheVariants.{TooLong, BadMarkOrLength}
 use Rattle.answer.specs.Refusal.{refusal_number}
-use Rattle.answer.specs.Outcome.{Meets, Answer, answer_number, answer_length, answer_transaction, Outcome, refused, choose, first_of}
+use Rattle.answer.specs.Outcome.{Meets, Answer, answer_number, answer_length, answer_transaction, answer_padding, Outcome, refused, choose, first_of}
 use Rattle.frame.specs.AesFrame.{aes_sealing, aes_opening}
 use Rattle.frame.specs.DesFrame.{des_size, des_sealing, des_opening}
 use Rattle.frame.specs.Forecast.{up_to_eights, forecast_size, forecast_rows, forecasting}
 use Rattle.frame.specs.Padding.{pad_count}
 use Rattle.frame.specs.Scheme.{by_scheme, sealing, opening, framing, responding, longest}
 use Rattle.answer.specs.Tests.{isnt, either}
-use Rattle.answer.proofs.Rows.{err_meets}
-use Rattle.answer.proofs.Refusals.{Whole, refused_number, refused_whole, choose_whole, decide_whole, accepted_whole, delivering_whole}
+use Rattle.answer.proofs.Rows.{choose_keeps, err_meets}
+use Rattle.answer.proofs.Refusals.{Whole, refused_number, refused_whole, decide_whole, acceptance_whole, delivering_whole}
 use Rattle.frame.proofs.WorkBlocks.{framing_refusal}
 
 -- ---- marks
@@ -84,16 +84,23 @@ module _ (scheme : ℕ) (c id payload : List ℕ) (code number room : ℕ) where
   pub responding_17 : (e : Refusal) (out : List ℕ) {r : Answer} → r ≡ Err e → (e ≡ BadMarkOrLength) × (scheme ≢ 1) × (scheme ≢ 2) → Meets (responding scheme c code number id payload room) r out out
   responding_17 e out {r} q h = rw (responding_unknown h.1 h.2 ∙ ap (λ (x : Refusal). refused (refusal_number x)) (sym h.0)) (err_meets e out q)
 
+-- what refusals and the outcomes of both schemes have, the outcome by mark has
+pub by_scheme_keeps : (P : Outcome → Type 0) → ((k : ℕ) → P (refused k)) → (s : ℕ) (a b : Outcome) → P a → P b → P (by_scheme s a b)
+unfolding by_scheme
+by_scheme_keeps P refusals s a b p q = choose_keeps P refusals (eqb s 1) a _ p (choose_keeps P refusals (eqb s 2) b _ q (refusals 17))
+
 -- a refusal of sealing or opening is all of its outcome
 pub sealing_whole : (scheme code number room : ℕ) (c id payload : List ℕ) → Whole (sealing scheme c code number id payload room)
-unfolding sealing by_scheme des_sealing aes_sealing
-sealing_whole scheme code number room c id payload =
-    choose_whole (eqb scheme 1) _ _ (decide_whole _ _ (accepted_whole 0 _)) (choose_whole (eqb scheme 2) _ _ (decide_whole _ _ (accepted_whole 0 _)) (refused_whole 17))
+unfolding sealing des_sealing aes_sealing
+sealing_whole scheme code number room c id payload = by_scheme_keeps Whole refused_whole scheme _ _ (decide_whole _ _ (acceptance_whole 0 _ _)) (decide_whole _ _ (acceptance_whole 0 _ _))
+
+pub responding_whole : (scheme code number room : ℕ) (c id payload : List ℕ) → Whole (responding scheme c code number id payload room)
+unfolding responding framing
+responding_whole scheme code number room c id payload = choose_keeps Whole refused_whole _ _ _ (acceptance_whole 0 _ _) (sealing_whole scheme code number (room - 2) c id payload)
 
 pub opening_whole : (scheme code room : ℕ) (c id d : List ℕ) → Whole (opening scheme c code id d room)
-unfolding opening by_scheme des_opening aes_opening
-opening_whole scheme code room c id d =
-    choose_whole (eqb scheme 1) _ _ (decide_whole _ _ (delivering_whole _ _ room)) (choose_whole (eqb scheme 2) _ _ (decide_whole _ _ (delivering_whole _ _ room)) (refused_whole 17))
+unfolding opening des_opening aes_opening
+opening_whole scheme code room c id d = by_scheme_keeps Whole refused_whole scheme _ _ (decide_whole _ _ (delivering_whole _ _ room)) (decide_whole _ _ (delivering_whole _ _ room))
 
 -- ---- the forecast
 
@@ -146,23 +153,23 @@ module _ (scheme n : ℕ) where
   module _ (r : Answer) where
     -- what `forecast` ensures
     abbrev Foretells : Type 0
-    Foretells = (answer_number r ≡ (forecasting scheme n).number) × (answer_length r ≡ (forecasting scheme n).size) × (answer_transaction r ≡ 0)
+    Foretells = (answer_number r ≡ (forecasting scheme n).number) × (answer_length r ≡ (forecasting scheme n).size) × (answer_transaction r ≡ 0) × (answer_padding r ≡ 0)
 
     -- the answer and the forecast have the same number and size
-    forecasts : (k size : ℕ) → ((forecasting scheme n).number ≡ k) × ((forecasting scheme n).size ≡ size) → (answer_number r ≡ k) × (answer_length r ≡ size) × (answer_transaction r ≡ 0) → Foretells
-    forecasts k size e f = (f.0 ∙ sym e.0, f.1 ∙ sym e.1, f.2)
+    forecasts : (k size : ℕ) → ((forecasting scheme n).number ≡ k) × ((forecasting scheme n).size ≡ size) → (answer_number r ≡ k) × (answer_length r ≡ size) × (answer_transaction r ≡ 0) × (answer_padding r ≡ 0) → Foretells
+    forecasts k size e f = (f.0 ∙ sym e.0, f.1 ∙ sym e.1, f.2, f.3)
 
     -- what the reader of the mark answered
     pub forecast_17 : (e : Refusal) → r ≡ Err e → (e ≡ BadMarkOrLength) × (scheme ≢ 1) × (scheme ≢ 2) → Foretells
-    forecast_17 e q h = forecasts 17 0 (foretold_17 h.1 h.2) (rw (q, h.0) (refl, refl, refl))
+    forecast_17 e q h = forecasts 17 0 (foretold_17 h.1 h.2) (rw (q, h.0) (refl, refl, refl, refl))
 
     -- what the scheme's own size says
     module _ (known : (scheme ≡ 1) ⊎ (scheme ≡ 2)) (most size : ℕ) (fixed : (longest scheme ≡ most) × (forecast_size scheme n ≡ size)) where
       pub forecast_12 : (e : Refusal) → r ≡ Err e → (most < n) × (e ≡ TooLong) → Foretells
-      forecast_12 e q h = forecasts 12 0 (foretold_12 known (omega (arith, fixed.0, h.0))) (rw (q, h.1) (refl, refl, refl))
+      forecast_12 e q h = forecasts 12 0 (foretold_12 known (omega (arith, fixed.0, h.0))) (rw (q, h.1) (refl, refl, refl, refl))
 
-      pub forecast_sized : (s : ℕ) → (n ≤ most) × (s ≡ size) → (answer_number r ≡ 0) × (answer_length r ≡ s) × (answer_transaction r ≡ 0) → Foretells
-      forecast_sized s h f = forecasts 0 (forecast_size scheme n) (foretold_size known (omega (arith, fixed.0, h.0))) (f.0, f.1 ∙ h.1 ∙ sym fixed.1, f.2)
+      pub forecast_sized : (s : ℕ) → (n ≤ most) × (s ≡ size) → (answer_number r ≡ 0) × (answer_length r ≡ s) × (answer_transaction r ≡ 0) × (answer_padding r ≡ 0) → Foretells
+      forecast_sized s h f = forecasts 0 (forecast_size scheme n) (foretold_size known (omega (arith, fixed.0, h.0))) (f.0, f.1 ∙ h.1 ∙ sym fixed.1, f.2, f.3)
 
   -- what a mark fixes
   pub forecast_des : scheme ≡ 1 → (longest scheme ≡ 232) × (forecast_size scheme n ≡ des_size n)

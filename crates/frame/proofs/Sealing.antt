@@ -1,17 +1,18 @@
--- Sealing answers with the sealed data, for each number and each payload that fits, wherever there is room; and it answers 0 nowhere else. In both
+-- Sealing answers with the sealed data and its padding, for each number and each payload that fits, wherever there is room; and it answers 0 nowhere else. In both
 -- schemes at once, then in each. Assumes nothing.
 use mathlib.Core.Path.{◌≡◌, refl, sym, ap, ◌∙◌}
 use mathlib.Core.List.{List, [], ◌∷◌}
 use mathlib.Core.Logic.{◌⊎◌, inl, inr, ⊎_elim}
-use Prim.Native.Nat.{ℕ, ◌≤◌, ◌<◌}
+use Prim.Native.Nat.{ℕ, ◌+◌, ◌≤◌, ◌<◌}
 use borrow.Author.Tests.{eq-eqb, lt-ltb, le-ltb, ltb-false}
 use lib.Dec.{eqb, ltb, lit<}
 use lib.ListN.{length}
-use Rattle.answer.specs.Outcome.{Outcome, Row, row, refused, accepted, choose, decide}
+use Rattle.answer.specs.Outcome.{Outcome, Row, row, refused, accepted, padded, choose, decide}
 use Rattle.answer.specs.Tests.{isnt, either}
 use Rattle.frame.specs.AesFrame.{aes_sealed, aes_size, aes_seal_rows, aes_sealing}
 use Rattle.frame.specs.DesFrame.{des_sealed, des_size, seal_rows, des_sealing}
-use Rattle.frame.specs.Scheme.{by_scheme, sealed, sealing, sealed_size, longest}
+use Rattle.frame.specs.Padding.{pad_count}
+use Rattle.frame.specs.Scheme.{by_scheme, sealed, sealing, sealed_size, sealed_padding, longest}
 use Rattle.answer.proofs.Rows.{decide_false, either_false, is_number}
 use Rattle.answer.proofs.Refusals.{isnt_of, either_of, zero_passes}
 
@@ -31,8 +32,8 @@ module _ (scheme : ℕ) (c id payload : List ℕ) (code number room : ℕ) (know
       ∷ row 16 (ltb room (sealed_size scheme (length payload)))
       ∷ []
 
-  by_rows : sealing scheme c code number id payload room ≡ decide rows (accepted 0 (sealed scheme c code number id payload))
-  unfolding sealing by_scheme sealed sealed_size longest des_sealing seal_rows aes_sealing aes_seal_rows choose
+  by_rows : sealing scheme c code number id payload room ≡ decide rows (padded (sealed_padding scheme (length payload)) (sealed scheme c code number id payload))
+  unfolding sealing by_scheme sealed sealed_size sealed_padding longest des_sealing seal_rows aes_sealing aes_seal_rows choose
   by_rows =
       ⊎_elim
       (λ (e : scheme ≡ 1). rw e refl)
@@ -54,7 +55,7 @@ module _ (scheme : ℕ) (c id payload : List ℕ) (code number room : ℕ) (know
 
     -- and the payload is not too long: only the room decides
     module _ (short : length payload ≤ longest scheme) where
-      pub seals : sealed_size scheme (length payload) ≤ room → sealing scheme c code number id payload room ≡ accepted 0 (sealed scheme c code number id payload)
+      pub seals : sealed_size scheme (length payload) ≤ room → sealing scheme c code number id payload room ≡ padded (sealed_padding scheme (length payload)) (sealed scheme c code number id payload)
       seals h = by_rows ∙ decide_false rows _ (either_of _ _ (isnt_of _ (eq-eqb _ _ six)) (isnt_of _ (eq-eqb _ _ all)), (le-ltb _ _ short, (le-ltb _ _ h, tt)))
 
       pub seals_16 : room < sealed_size scheme (length payload) → sealing scheme c code number id payload room ≡ refused 16
@@ -63,11 +64,11 @@ module _ (scheme : ℕ) (c id payload : List ℕ) (code number room : ℕ) (know
 
 module _ (id payload : List ℕ) (code number room : ℕ) where
   pub des_seals : (key : List ℕ) → Seals 8 232 (des_size (length payload)) (length id) (length key) (length payload) room
-      → des_sealing key code number id payload room ≡ accepted 0 (des_sealed key code number id payload)
-  unfolding sealing by_scheme sealed sealed_size longest choose
+      → des_sealing key code number id payload room ≡ padded (pad_count (length payload + 8)) (des_sealed key code number id payload)
+  unfolding sealing by_scheme sealed sealed_size sealed_padding longest choose
   des_seals key h = seals 1 key id payload code number room (inl refl) h.six h.all h.short h.fits
 
   pub aes_seals : (c : List ℕ) → Seals 36 243 (aes_size (length payload)) (length id) (length c) (length payload) room
       → aes_sealing c code number id payload room ≡ accepted 0 (aes_sealed c code number id payload)
-  unfolding sealing by_scheme sealed sealed_size longest choose
+  unfolding sealing by_scheme sealed sealed_size sealed_padding longest choose
   aes_seals c h = seals 2 c id payload code number room (inr refl) h.six h.all h.short h.fits

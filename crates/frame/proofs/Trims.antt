@@ -17,15 +17,15 @@ use Rattle.cipher.proofs.Compare.{Gathered, gather_done}
 use Rattle.cipher.proofs.Ciphers.{length_des_cbc_back}
 use Rattle.cipher.proofs.Numbers.{le_or_lt}
 use Rattle.answer.specs.Number.{number_of}
-use Rattle.answer.specs.Delivery.{delivering}
+use Rattle.answer.specs.Delivery.{handing, delivering}
 use Rattle.frame.specs.DesFrame.{des_plain, des_sealed, payload_of, des_opening, open_rows, plain_rows}
-use Rattle.answer.specs.Outcome.{first_of}
+use Rattle.answer.specs.Outcome.{first_of, acceptance}
 use Rattle.answer.specs.Outcome.{Outcome, Row, refused, accepted, choose, decide}
 use Rattle.answer.specs.Tests.{both, same}
 use Rattle.frame.specs.Padding.{pad_count, pad}
 use Rattle.frame.specs.Trimmed.{last_byte, is_padding, trim_count, trim, trimmed_opening}
 use Rattle.answer.proofs.Equality.{both_true, both_of, same_equal}
-use Rattle.answer.proofs.Refusals.{accepted_zero, accepted_number, accepted_bytes, same_of}
+use Rattle.answer.proofs.Refusals.{acceptance_zero, accepted_number, accepted_bytes, same_of}
 use Rattle.answer.proofs.Rows.{AllFalse, numbered, first_refuses, first_passes, decide_false, is_number, no_room, room_enough, choose_most}
 use Rattle.frame.proofs.DesOpens.{rest_part}
 use Rattle.frame.proofs.DesTrip.{des_opens_padded, des_payload_whole}
@@ -247,11 +247,11 @@ module _ (key id sealed : List ℕ) (code : ℕ) where
   before16 = open_rows (length id) (length key) (length sealed) ++ plain_rows code id (des_plain key sealed)
 
   pub opening : (room : ℕ) → des_opening key code id sealed room ≡ decide before16 (delivering (number_of (des_plain key sealed)) (payload_of (des_plain key sealed)) room)
-  unfolding des_opening open_rows plain_rows delivering decide
+  unfolding des_opening open_rows plain_rows handing acceptance decide
   opening room = refl
 
   trimmed : (room : ℕ) → trimmed_opening key code id sealed room ≡ decide before16 (delivering (number_of (des_plain key sealed)) (trim (payload_of (des_plain key sealed))) room)
-  unfolding trimmed_opening open_rows plain_rows delivering decide
+  unfolding trimmed_opening open_rows plain_rows handing acceptance decide
   trimmed room = refl
 
   module _ (h : AllFalse before16) where
@@ -264,7 +264,7 @@ module _ (key id sealed : List ℕ) (code : ℕ) where
         rw length-take (omega arith)
 
     opened : des_opening key code id sealed 256 ≡ accepted (number_of (des_plain key sealed)) (payload_of (des_plain key sealed))
-    opened = opening 256 ∙ decide_false before16 _ h ∙ room_enough _ _ 256 short_payload
+    opened = opening 256 ∙ decide_false before16 _ h ∙ room_enough _ 0 _ 256 short_payload
 
   no_row : first_of before16 ≡ 0 → AllFalse before16
   unfolding open_rows plain_rows numbered both
@@ -285,7 +285,7 @@ module _ (key id sealed : List ℕ) (code : ℕ) where
         (le_or_lt 1 f)
 
     pub trimmed_refuses : (room : ℕ) → (k ≡ 0 → ⊥) → trimmed_opening key code id sealed room ≡ refused k
-    unfolding accepted
+    unfolding acceptance
     trimmed_refuses room n = ⊎_elim (λ h. absurd (n (e ∙ ap (λ (o : Outcome). o.number) (opened h)))) (λ r. r.1 room) passed_or_refused
 
     pub all_passed : k ≡ 0 → AllFalse before16
@@ -299,7 +299,7 @@ module _ (key id sealed : List ℕ) (code : ℕ) where
 
     -- what was opened stands inside a block of 256 bytes
     pub opened_fits : (n : ℕ) → n ≡ length (des_opening key code id sealed 256).bytes → k ≡ 0 → n ≤ 256
-    unfolding accepted
+    unfolding acceptance
     opened_fits n l z =
         let t = trimmed_opens 0 z in
         let m = l ∙ ap (λ (o : Outcome). length o.bytes) t.0 in
@@ -308,7 +308,7 @@ module _ (key id sealed : List ℕ) (code : ℕ) where
 
     -- and is whole blocks
     pub opened_whole : code < 256 → Bytes sealed → (n : ℕ) → n ≡ length (des_opening key code id sealed 256).bytes → k ≡ 0 → n % 8 ≡ 0
-    unfolding accepted
+    unfolding acceptance
     opened_whole hc bytes n l z = rw (l ∙ ap (λ (o : Outcome). length o.bytes) (trimmed_opens 0 z).0) (des_payload_whole key id sealed code 256 hc bytes (sym e ∙ z))
 
 -- ---- the trimmed opening of what was sealed
@@ -319,7 +319,7 @@ module _ (key id payload : List ℕ) (code number : ℕ) (hk : length key ≡ 8)
       let sealed : List ℕ = des_sealed key code number id payload in
       let fits : length (pad payload) ≤ 256 = omega (arith, length_pad payload, pad_count_small (length payload)) in
       let o : des_opening key code id sealed 256 ≡ accepted number (pad payload) = des_opens_padded key id payload code number hk hi bi hc hn hp bp 256 fits in
-      let z : 0 ≡ (des_opening key code id sealed 256).number = sym (ap (λ (q : Outcome). q.number) o ∙ accepted_zero number (pad payload)) in
+      let z : 0 ≡ (des_opening key code id sealed 256).number = sym (ap (λ (q : Outcome). q.number) o ∙ acceptance_zero number 0 (pad payload)) in
       let t = trimmed_opens key id sealed code 0 z room refl in
       let a : accepted (number_of (des_plain key sealed)) (payload_of (des_plain key sealed)) ≡ accepted number (pad payload) = sym t.0 ∙ o in
       t.1 ∙ ap₂ (λ (m : ℕ) (q : List ℕ). delivering m (trim q) room) (accepted_number _ _ _ _ a) (accepted_bytes _ _ _ _ a)
@@ -331,8 +331,8 @@ module _ (key id payload : List ℕ) (code number : ℕ) (hk : length key ≡ 8)
   trimmed_gives_back = (λ h f. gives payload ((trim_pad payload).0 h) f, λ h f. gives (trim payload) ((trim_pad payload).1 h) f)
     where
       gives : (p : List ℕ) → trim (pad payload) ≡ p → length p ≤ room → trimmed_opening key code id (des_sealed key code number id payload) room ≡ accepted number p
-      gives p e f = delivered ∙ ap (λ (q : List ℕ). delivering number q room) e ∙ room_enough number p room f
+      gives p e f = delivered ∙ ap (λ (q : List ℕ). delivering number q room) e ∙ room_enough number 0 p room f
 
   -- and where what is handed out does not fit, the answer is 16
   pub trimmed_short_room : room < length (trim (pad payload)) → trimmed_opening key code id (des_sealed key code number id payload) room ≡ refused 16
-  trimmed_short_room h = delivered ∙ no_room number (trim (pad payload)) room h
+  trimmed_short_room h = delivered ∙ no_room number 0 (trim (pad payload)) room h

@@ -1,7 +1,7 @@
 -- Authentication 2. DES: a payload to which no header is added, sealed under code 0x13; its opening
 -- gives all but the MAC, padding too. AES: sealed data under code 0x43. Assumes nothing.
 use Rattle.std.specs.Prelude.{ℕ, ◌+◌, ◌-◌, ◌%◌, List, [], ◌∷◌, ◌++◌, eqb, ltb, length, take}
-use Rattle.answer.specs.Outcome.{Outcome, Row, accepted, row, decide}
+use Rattle.answer.specs.Outcome.{Outcome, Row, padded, row, decide}
 use Rattle.frame.specs.AesFrame.{aes_opening}
 use Rattle.frame.specs.DesFrame.{mac_holds, des_seal, des_plain}
 use Rattle.answer.specs.Delivery.{delivering}
@@ -26,7 +26,8 @@ auth2_seal_rows key payload = row 17 (isnt (eqb key 8)) ∷ row 12 (ltb 240 (pay
 
 unfoldable pub auth2_sealing : List ℕ → List ℕ → ℕ → Outcome
 auth2_sealing key payload room =
-    decide (auth2_seal_rows (length key) (length payload) ++ (row 16 (ltb room (auth2_size (length payload))) ∷ [])) (accepted 0 (auth2_sealed key payload))
+    decide (auth2_seal_rows (length key) (length payload) ++ (row 16 (ltb room (auth2_size (length payload))) ∷ []))
+    (padded (pad_count (length payload)) (auth2_sealed key payload))
 
 -- ---- opening
 

@@ -5,7 +5,7 @@ use Rattle.cipher.specs.Fold.{under_each, under_each_back}
 use Rattle.cipher.specs.Sp80038a.{cbc_encrypt, cbc_decrypt}
 use Rattle.answer.specs.Number.{number_bytes, number_of}
 use Rattle.answer.specs.Delivery.{delivering}
-use Rattle.answer.specs.Outcome.{Outcome, Row, accepted, row, decide}
+use Rattle.answer.specs.Outcome.{Outcome, Row, padded, row, decide}
 use Rattle.frame.specs.Padding.{pad_count, pad}
 use Rattle.answer.specs.Tests.{isnt, either, same}
 
@@ -50,7 +50,8 @@ seal_rows id key payload = row 17 (either (isnt (eqb id 6)) (isnt (eqb key 8))) 
 
 unfoldable pub des_sealing : List ℕ → ℕ → ℕ → List ℕ → List ℕ → ℕ → Outcome
 des_sealing key code number id payload room =
-    decide (seal_rows (length id) (length key) (length payload) ++ (row 16 (ltb room (des_size (length payload))) ∷ [])) (accepted 0 (des_sealed key code number id payload))
+    decide (seal_rows (length id) (length key) (length payload) ++ (row 16 (ltb room (des_size (length payload))) ∷ []))
+    (padded (pad_count (length payload + 8)) (des_sealed key code number id payload))
 
 -- ---- opening
 

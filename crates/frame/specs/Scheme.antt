@@ -1,9 +1,10 @@
 -- Both schemes, and response frames. A scheme mark is 1 for DES and 2 for AES, and every other gives 17 (docs/NUMBERS.md). The credentials are
 -- the DES session key, or cipher key, MAC key and Challenge 3C. Assumes nothing.
 use Rattle.std.specs.Prelude.{ℕ, ◌+◌, ◌-◌, List, ◌∷◌, eqb, length}
-use Rattle.answer.specs.Outcome.{Outcome, refused, accepted, choose}
+use Rattle.answer.specs.Outcome.{Outcome, refused, padded, choose}
 use Rattle.frame.specs.DesFrame.{des_size, des_sealed, des_sealing, des_opening}
 use Rattle.frame.specs.AesFrame.{aes_size, aes_sealed, aes_sealing, aes_opening}
+use Rattle.frame.specs.Padding.{pad_count}
 
 -- the outcome of the scheme that the mark names
 unfoldable pub by_scheme : ℕ → Outcome → Outcome → Outcome
@@ -27,9 +28,9 @@ opening scheme c code id sealed room = by_scheme scheme (des_opening c code id s
 unfoldable pub framed : ℕ → List ℕ → List ℕ
 framed code sealed = (length sealed + 2) ∷ code ∷ sealed
 
--- frames an accepted sealing; passes a refusal through
+-- frames an accepted sealing, whose padding it keeps; passes a refusal through
 unfoldable pub framing : ℕ → Outcome → Outcome
-framing code o = choose (eqb o.number 0) (accepted 0 (framed code o.bytes)) o
+framing code o = choose (eqb o.number 0) (padded o.padding (framed code o.bytes)) o
 
 -- the sealing has two bytes less of the output, so 16 is about the whole frame
 unfoldable pub responding : ℕ → List ℕ → ℕ → ℕ → List ℕ → List ℕ → ℕ → Outcome
@@ -40,6 +41,10 @@ responding scheme c code number id payload room = framing code (sealing scheme c
 -- the size of the sealed data of a payload of n bytes
 unfoldable pub sealed_size : ℕ → ℕ → ℕ
 sealed_size scheme n = choose (eqb scheme 1) (des_size n) (aes_size n)
+
+-- how many bytes of padding are in it: with DES header and payload are padded, with AES nothing is
+unfoldable pub sealed_padding : ℕ → ℕ → ℕ
+sealed_padding scheme n = choose (eqb scheme 1) (pad_count (n + 8)) 0
 
 -- the longest payload
 unfoldable pub longest : ℕ → ℕ

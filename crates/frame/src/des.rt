@@ -13,6 +13,7 @@ ghost use Rattle.frame.specs.Scheme.{responding};
 ghost use Rattle.frame.specs.Trimmed.{is_padding, trim_count, trim, trimmed_opening};
 
 use crate::command;
+use crate::sealed::Sealed;
 use answer::{Answer, Refusal};
 
 const AUTHENTICATION2_CODE: u8 = 0x13;
@@ -43,7 +44,7 @@ fn accept_authentication2(plain: &[u8], out: &mut [u8]) -> Answer
     if plain.len() < 16 || !check_packet_mac_des(plain, AUTHENTICATION2_CODE) {
         return Err(Refusal::MacDiffers);
     }
-    answer::deliver(0, strip_des_response_mac(plain), out)
+    answer::deliver(0, 0, strip_des_response_mac(plain), out)
 }
 
 // Opens an Authentication 2 response; header and padding stay.
@@ -63,7 +64,7 @@ pub fn decrypt_authentication2_payload(key: &[u8], data: &[u8], out: &mut [u8]) 
     accept_authentication2(&work[..n], out)
 }
 
-// Seals an Authentication 2 payload, to which no header is added.
+// Seals an Authentication 2 payload, to which no header is added. The answer has the size and the padding.
 pub fn encrypt_authentication2_payload(key: &[u8], payload: &[u8], out: &mut [u8]) -> Answer
     ensures { Meets (auth2_sealing key.now payload.now (length out.old)) result out.old out.new }
 {
@@ -74,8 +75,8 @@ pub fn encrypt_authentication2_payload(key: &[u8], payload: &[u8], out: &mut [u8
     }
     let mut work = [0u8; 256];
     cipher::copy(payload, &mut work);
-    let end = seal_front(AUTHENTICATION2_CODE, key, &mut work, n);
-    answer::deliver(0, &work[..end], out)
+    let sealed = seal_front(AUTHENTICATION2_CODE, key, &mut work, n);
+    answer::deliver(0, sealed.padding, &work[..sealed.size], out)
 }
 
 // What stands before a payload, in a command as in a response.
@@ -144,7 +145,7 @@ fn deliver_checked(
     if !same_id(head.transaction_id, id) {
         return Err(Refusal::IdDiffers);
     }
-    answer::deliver(head.transaction_number, payload, out)
+    answer::deliver(head.transaction_number, 0, payload, out)
 }
 
 impl<'a> SecureResponse<'a> {
@@ -258,7 +259,7 @@ pub fn decrypt_secure_response_trimmed_des(
     let opened = decrypt_secure_response_des(code, id, key, data, &mut work)?;
     let n = usize::from(opened.length);
     let payload = trim_payload(&work[..n]);
-    answer::deliver(opened.transaction_number, payload, out)
+    answer::deliver(opened.transaction_number, 0, payload, out)
 }
 
 // A payload without the MAC that follows it; by index, since split_last_chunk does not say where in memory its parts stand.
@@ -298,27 +299,39 @@ pub(crate) fn check_packet_mac_des(plain: &[u8], code: u8) -> bool
     cipher::ct_eq(&recovered, &start)
 }
 
-// Pads the first len bytes of out in place, and answers how many they are then.
-fn pad_to_des_block_size(out: &mut [u8], len: usize) -> usize
-    requires { len + pad_count len ≤ length out.old }
-    ensures { (result ≡ len + pad_count len) × (out.new ≡ over (pad (take len out.old)) out.old) }
-{
-    let end = len.next_multiple_of(8);
-    out[len..end].fill((end - len) as u8);
-    end
+// A padded text: how many bytes it has, and how many of them were added.
+#[derive(Clone, Copy)]
+struct Padded {
+    end: usize,
+    added: u8,
 }
 
-// Seals the first len bytes of out in place: padding, MAC, encryption. Answers how many bytes they are then.
-fn seal_front(code: u8, key: [u8; 8], out: &mut [u8], len: usize) -> usize
-    requires { len + pad_count len + 8 ≤ length out.old }
-    ensures { (result ≡ len + pad_count len + 8) × (result ≡ length (des_seal key code (pad (take len out.old)))) × (out.new ≡ over (des_seal key code (pad (take len out.old))) out.old) }
+// Pads the first len bytes of out in place.
+fn pad_to_des_block_size(out: &mut [u8], len: usize) -> Padded
+    requires { len + pad_count len ≤ length out.old }
+    ensures { (result.end ≡ len + pad_count len) × (result.added ≡ pad_count len) × (out.new ≡ over (pad (take len out.old)) out.old) }
 {
-    let end = pad_to_des_block_size(out, len);
-    let mac = calculate_command_mac_des(code, &out[..end]);
-    let sealed = end + 8;
-    out[end..sealed].copy_from_slice(&mac);
-    cipher::encrypt_des_cbc_zero_iv(&mut out[..sealed], key).unwrap();
-    sealed
+    let end = len.next_multiple_of(8);
+    let added = (end - len) as u8;
+    out[len..end].fill(added);
+    Padded { end, added }
+}
+
+// Seals the first len bytes of out in place: padding, MAC, encryption.
+fn seal_front(code: u8, key: [u8; 8], out: &mut [u8], len: usize) -> Sealed
+    requires { len + pad_count len + 8 ≤ length out.old }
+    ensures front { (result.size ≡ len + pad_count len + 8) × (result.size ≡ length (des_seal key code (pad (take len out.old)))) × (out.new ≡ over (des_seal key code (pad (take len out.old))) out.old) }
+    ensures padding { result.padding ≡ pad_count len }
+{
+    let padded = pad_to_des_block_size(out, len);
+    let mac = calculate_command_mac_des(code, &out[..padded.end]);
+    let size = padded.end + 8;
+    out[padded.end..size].copy_from_slice(&mac);
+    cipher::encrypt_des_cbc_zero_iv(&mut out[..size], key).unwrap();
+    Sealed {
+        size,
+        padding: padded.added,
+    }
 }
 
 // The size of a sealed payload of n bytes, if they are not too many.
@@ -332,15 +345,22 @@ pub(crate) fn size_des(n: usize) -> Result<usize, Refusal>
 }
 
 // Writes a sealed payload over the front of out. All work is done in out.
-fn write_des(code: u8, head: SecureResponseHeader, key: [u8; 8], payload: &[u8], out: &mut [u8])
+fn write_des(
+    code: u8,
+    head: SecureResponseHeader,
+    key: [u8; 8],
+    payload: &[u8],
+    out: &mut [u8],
+) -> Sealed
     requires payload_len_bound { length payload.now ≤ 232 }
     requires payload_in_bounds { des_size (length payload.now) ≤ length out.old }
-    ensures size { des_size (length payload.now) ≡ length (des_sealed key code head.transaction_number head.transaction_id payload.now) }
+    ensures size { (result.size ≡ des_size (length payload.now)) × (des_size (length payload.now) ≡ length (des_sealed key code head.transaction_number head.transaction_id payload.now)) }
+    ensures padding { result.padding ≡ pad_count (length payload.now + 8) }
     ensures out_after { out.new ≡ over (des_sealed key code head.transaction_number head.transaction_id payload.now) out.old }
 {
     head.write(out);
     cipher::copy(payload, &mut out[8..]);
-    seal_front(code, key, out, payload.len() + 8);
+    seal_front(code, key, out, payload.len() + 8)
 }
 
 // Seals a command or a response with its number and ID under the session key, over the front of a work block, if the lengths are right.
@@ -351,21 +371,21 @@ fn seal_des(
     key: &[u8],
     payload: &[u8],
     work: &mut [u8],
-) -> Result<usize, Refusal>
+) -> Result<Sealed, Refusal>
     requires { 248 ≤ length work.old }
-    ensures { SealsInto (seal_rows (length id.now) (length key.now) (length payload.now)) (des_sealed key.now code number id.now payload.now) (des_size (length payload.now)) result work.old work.new }
+    ensures { SealsInto (seal_rows (length id.now) (length key.now) (length payload.now)) (des_sealed key.now code number id.now payload.now) (des_size (length payload.now)) (pad_count (length payload.now + 8)) result work.old work.new }
 {
     let head = SecureResponseHeader {
         transaction_number: number,
         transaction_id: answer::exact::<6>(id)?,
     };
     let key = answer::exact::<8>(key)?;
-    let size = size_des(payload.len())?;
-    write_des(code, head, key, payload, work);
-    Ok(size)
+    // 12; what is written has its own size
+    size_des(payload.len())?;
+    Ok(write_des(code, head, key, payload, work))
 }
 
-// Seals a command or a response with its transaction number and ID under the session key, in a work block.
+// Seals a command or a response with its transaction number and ID under the session key, in a work block. The answer has size and padding.
 pub fn encrypt_secure_request_des(
     code: u8,
     number: u16,
@@ -377,11 +397,11 @@ pub fn encrypt_secure_request_des(
     ensures { Meets (des_sealing key.now code number id.now payload.now (length out.old)) result out.old out.new }
 {
     let mut work = [0u8; 256];
-    let end = seal_des(code, number, id, key, payload, &mut work)?;
-    answer::deliver(0, &work[..end], out)
+    let sealed = seal_des(code, number, id, key, payload, &mut work)?;
+    answer::deliver(0, sealed.padding, &work[..sealed.size], out)
 }
 
-// Makes a response frame under the session key, in a work block.
+// Makes a response frame under the session key, in a work block. The answer has its size, and the padding of what is sealed in it.
 pub fn build_secure_response_frame_des(
     code: u8,
     number: u16,
@@ -394,6 +414,6 @@ pub fn build_secure_response_frame_des(
 {
     let mut work = [0u8; 256];
     let sealed = seal_des(code, number, id, key, payload, &mut work[2..])?;
-    let end = command::frame_with_length_prefix(code, sealed, &mut work);
-    answer::deliver(0, &work[..end], out)
+    let end = command::frame_with_length_prefix(code, sealed.size, &mut work);
+    answer::deliver(0, sealed.padding, &work[..end], out)
 }

@@ -6,6 +6,7 @@
 mod command;
 mod des;
 mod package;
+mod sealed;
 mod secure;
 mod v2_aes;
 

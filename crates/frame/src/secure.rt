@@ -1,7 +1,7 @@
 // One call for both schemes, by scheme mark: 1 is DES, 2 is AES, every other is refused (the framing half of mod.rs). The parameters are those of C:
 // numbers and byte slices. Each call is its own match on the scheme, which is shorter than a function that would be given both calls.
 ghost use Rattle.std.specs.Prelude.{◌≡◌, length};
-ghost use Rattle.answer.specs.Outcome.{answer_number, answer_length, answer_transaction, Meets};
+ghost use Rattle.answer.specs.Outcome.{answer_number, answer_length, answer_transaction, answer_padding, Meets};
 ghost use Rattle.frame.specs.Forecast.{forecasting};
 ghost use Rattle.frame.specs.Scheme.{sealing, opening, responding};
 
@@ -13,7 +13,8 @@ pub const DES: u8 = 1;
 
 pub const AES128: u8 = 2;
 
-// Seals a command. The credentials are the session key for DES; cipher key, MAC key and Challenge 3C for AES.
+// Seals a command; the answer has its size and its padding. The credentials are the session key for DES; cipher key, MAC key and Challenge 3C
+// for AES.
 pub fn encrypt_command(
     scheme: u8,
     code: u8,
@@ -59,7 +60,8 @@ pub fn decrypt_response(
     }
 }
 
-// Makes a response frame: a length byte, which counts itself, the code, then the sealed response.
+// Makes a response frame: a length byte, which counts itself, the code, then the sealed response. The answer has its size, and the padding of
+// what is sealed in it.
 pub fn build_secure_response_frame(
     scheme: u8,
     code: u8,
@@ -88,7 +90,7 @@ pub fn build_secure_response_frame(
 
 // The size of a sealed payload of payload_len bytes: what encrypt_command writes.
 pub fn forecast(scheme: u8, payload_len: usize) -> Answer
-    ensures { (answer_number result ≡ (forecasting scheme payload_len).number) × (answer_length result ≡ (forecasting scheme payload_len).size) × (answer_transaction result ≡ 0) }
+    ensures { (answer_number result ≡ (forecasting scheme payload_len).number) × (answer_length result ≡ (forecasting scheme payload_len).size) × (answer_transaction result ≡ 0) × (answer_padding result ≡ 0) }
 {
     match Scheme::try_from(scheme)? {
         Scheme::Des => Ok(Accepted::sized(des::size_des(payload_len)? as u16)),

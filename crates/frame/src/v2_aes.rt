@@ -12,6 +12,7 @@ ghost use Rattle.frame.specs.Scheme.{responding};
 ghost use Rattle.frame.specs.AesFrame.{aes_iv, aes_mac, aes_sealed, aes_size, aes_seal_rows, aes_sealing, aes_opening};
 
 use crate::command;
+use crate::sealed::Sealed;
 use answer::{Answer, Refusal};
 
 const AUTHENTICATION2_CODE: u8 = 0x43;
@@ -113,7 +114,7 @@ fn write_aes(
 }
 
 // Seals a command or a response over the front of a work block, if the lengths are right. The credentials are cipher key, MAC key and
-// Challenge 3C.
+// Challenge 3C. A stream cipher needs no whole blocks, so nothing is padded.
 fn seal_aes(
     code: u8,
     number: u16,
@@ -121,15 +122,15 @@ fn seal_aes(
     credentials: &[u8],
     payload: &[u8],
     work: &mut [u8],
-) -> Result<usize, Refusal>
+) -> Result<Sealed, Refusal>
     requires { 253 ≤ length work.old }
-    ensures { SealsInto (aes_seal_rows (length id.now) (length credentials.now) (length payload.now)) (aes_sealed credentials.now code number id.now payload.now) (aes_size (length payload.now)) result work.old work.new }
+    ensures { SealsInto (aes_seal_rows (length id.now) (length credentials.now) (length payload.now)) (aes_sealed credentials.now code number id.now payload.now) (aes_size (length payload.now)) 0 result work.old work.new }
 {
     let id = answer::exact::<6>(id)?;
     let credentials = Credentials::parse(credentials)?;
     let size = size_aes(payload.len())?;
     write_aes(code, number, id, credentials, payload, work);
-    Ok(size)
+    Ok(Sealed { size, padding: 0 })
 }
 
 // Seals a command or a response, in a work block. These lines and those of the response frame are des.rt's but for what seals: a trait for it
@@ -145,8 +146,8 @@ pub fn encrypt_secure_request_v2_aes128(
     ensures { Meets (aes_sealing credentials.now code number id.now payload.now (length out.old)) result out.old out.new }
 {
     let mut work = [0u8; 256];
-    let end = seal_aes(code, number, id, credentials, payload, &mut work)?;
-    answer::deliver(0, &work[..end], out)
+    let sealed = seal_aes(code, number, id, credentials, payload, &mut work)?;
+    answer::deliver(0, sealed.padding, &work[..sealed.size], out)
 }
 
 // ---- opening
@@ -158,7 +159,7 @@ fn accept_aes(number: u16, mac: [u8; 8], wanted: [u8; 8], payload: &[u8], out: &
     if !cipher::ct_eq(&mac, &wanted) {
         return Err(Refusal::MacDiffers);
     }
-    answer::deliver(number, payload, out)
+    answer::deliver(number, 0, payload, out)
 }
 
 // The parts of sealed data, if its length is right: number, cipher payload and cipher MAC.
@@ -237,6 +238,6 @@ pub fn build_secure_response_frame_v2_aes128(
 {
     let mut work = [0u8; 256];
     let sealed = seal_aes(code, number, id, credentials, payload, &mut work[2..])?;
-    let end = command::frame_with_length_prefix(code, sealed, &mut work);
-    answer::deliver(0, &work[..end], out)
+    let end = command::frame_with_length_prefix(code, sealed.size, &mut work);
+    answer::deliver(0, sealed.padding, &work[..end], out)
 }

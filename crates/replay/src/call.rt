@@ -4,14 +4,15 @@ ghost use Rattle.std.specs.Prelude.{◌≤◌, length};
 use answer::{Answer, Refusal};
 use textfile::{FieldError, Fields};
 
-// An answer, of a call or stored: its number, how many bytes it has, the scheme mark, and the one other value (transaction number, node, index, or 1
-// for yes). What the operation does not have is 0. The files have numbers, so answers are compared as numbers.
+// An answer, of a call or stored: its number, how many bytes it has, the scheme mark, the one other value (transaction number, node, index, or 1
+// for yes), and the padding. What the operation does not have is 0. The files have numbers, so answers are compared as numbers.
 #[derive(Clone, Copy, PartialEq, Eq)]
 pub(crate) struct Given {
     pub(crate) number: u8,
     pub(crate) length: u16,
     pub(crate) scheme: u8,
     pub(crate) value: u16,
+    pub(crate) padding: u8,
 }
 
 impl From<Answer> for Given {
@@ -22,6 +23,7 @@ impl From<Answer> for Given {
                 length: accepted.length,
                 scheme: 0,
                 value: accepted.transaction_number,
+                padding: accepted.padding,
             },
             Err(refusal) => Given::from(refusal),
         }
@@ -42,6 +44,7 @@ impl Given {
             length: 0,
             scheme: 0,
             value,
+            padding: 0,
         }
     }
 }
@@ -83,6 +86,16 @@ impl Wanted {
         )
     }
 
+    // With the padding of a sealing. The original tells none, so the files have none; a refusal has none either.
+    pub(crate) fn padded(self, padding: u8) -> Wanted {
+        let Wanted { answer, bytes } = self;
+        let padding = if answer.number == 0 { padding } else { 0 };
+        Wanted {
+            answer: Given { padding, ..answer },
+            bytes,
+        }
+    }
+
     // An answer with a value and no bytes.
     pub(crate) fn value(fields: &Fields, number: u8, value: u16) -> Result<Wanted, FieldError> {
         Wanted::new(number, value, 0, Vec::new(*fields.texts.allocator()))
@@ -101,6 +114,7 @@ impl Wanted {
             length,
             scheme,
             value,
+            padding: 0,
         };
         let is_answer = match number {
             0 => true,

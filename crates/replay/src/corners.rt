@@ -168,6 +168,7 @@ fn receive(
             let accepted = Accepted {
                 length: 8,
                 transaction_number: outcome.number,
+                padding: 0,
             };
             (Ok(accepted), *b"payload8")
         }

@@ -22,6 +22,7 @@ pub(crate) fn keys(fields: &Fields) -> Result<bool, FieldError> {
                 length: derived.length,
                 scheme: derived.scheme.mark(),
                 value: 0,
+                padding: 0,
             },
             Err(refusal) => Given::from(refusal),
         })

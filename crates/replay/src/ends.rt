@@ -157,6 +157,7 @@ fn opened_16(transaction_number: u16) -> Answer {
     Ok(Accepted {
         length: 16,
         transaction_number,
+        padding: 0,
     })
 }
 

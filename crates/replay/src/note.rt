@@ -32,10 +32,12 @@ impl Checks {
         }
     }
 
-    // One check more: a call is accepted with n bytes, and gives no number.
+    // One check more: a call is accepted with n bytes, and gives no number and no padding.
     pub(crate) fn gives(&mut self, answer: Answer, n: usize) {
         self.holds(answer.is_ok_and(|accepted| {
-            usize::from(accepted.length) == n && accepted.transaction_number == 0
+            usize::from(accepted.length) == n
+                && accepted.transaction_number == 0
+                && accepted.padding == 0
         }));
     }
 

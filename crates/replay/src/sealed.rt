@@ -3,6 +3,20 @@ use crate::call::{Given, Wanted, answered};
 use answer::{Answer, Scheme};
 use textfile::{FieldError, Fields};
 
+// The padding rule: what n bytes lack of whole blocks of 8.
+fn des_padding(n: usize) -> u8 {
+    ((8 - n % 8) % 8) as u8
+}
+
+// The padding of a sealed payload of n bytes. A header of 8 bytes changes nothing.
+fn padding(scheme: u8, n: usize) -> u8 {
+    if scheme == Scheme::Des.mark() {
+        des_padding(n)
+    } else {
+        0
+    }
+}
+
 // A case of a sealed command or of a response frame.
 #[derive(Drop)]
 struct Sealing {
@@ -17,19 +31,21 @@ struct Sealing {
 
 impl Sealing {
     fn read(fields: &Fields) -> Result<Sealing, FieldError> {
+        let scheme = fields.number(1)?;
+        let payload = fields.bytes(6)?;
         Ok(Sealing {
-            scheme: fields.number(1)?,
+            scheme,
             code: fields.number(2)?,
             number: fields.number(3)?,
             id: fields.bytes(4)?,
             credentials: fields.bytes(5)?,
-            payload: fields.bytes(6)?,
-            wanted: Wanted::bytes(fields, 7, 8)?,
+            wanted: Wanted::bytes(fields, 7, 8)?.padded(padding(scheme, payload.len())),
+            payload,
         })
     }
 }
 
-// A sealed command, its size as it was foretold, and the command sealed by the scheme's own operation.
+// A sealed command, its size as it was foretold, which has no padding to tell, and the command sealed by the scheme's own operation.
 pub(crate) fn seal(fields: &Fields) -> Result<bool, FieldError> {
     let Sealing {
         scheme,
@@ -51,7 +67,11 @@ pub(crate) fn seal(fields: &Fields) -> Result<bool, FieldError> {
             frame::encrypt_secure_request_v2_aes128(code, number, &id, &credentials, &payload, out)
         })
     });
-    Ok(both && forecast == wanted.answer && own)
+    let size = Given {
+        padding: 0,
+        ..wanted.answer
+    };
+    Ok(both && forecast == size && own)
 }
 
 // A response frame, and the one made by the scheme's own operation.
@@ -129,10 +149,13 @@ pub(crate) fn under_key<F: Fn(&[u8], &[u8], &mut [u8]) -> Answer>(
 
 // Closures pass the arguments on: Rattle refuses the name of a function of another crate in their place.
 pub(crate) fn auth2_seal(fields: &Fields) -> Result<bool, FieldError> {
-    under_key(
-        fields,
-        |key, text, out| frame::encrypt_authentication2_payload(key, text, out),
-    )
+    let wanted = Wanted::bytes(fields, 3, 4)?;
+    let key = fields.bytes(1)?;
+    let payload = fields.bytes(2)?;
+    let wanted = wanted.padded(des_padding(payload.len()));
+    Ok(wanted.is_given(|out| {
+        answered(frame::encrypt_authentication2_payload(&key, &payload, out))
+    }))
 }
 
 pub(crate) fn auth2_open_des(fields: &Fields) -> Result<bool, FieldError> {

@@ -15,8 +15,8 @@ use Rattle.cipher.specs.Fips46.{des_encrypt, tdea2_encrypt, tdea2_decrypt}
 use Rattle.answer.specs.declared.answer.Accepted.{Accepted}
 use Rattle.answer.specs.declared.refusal.Refusal.{Refusal}
 use Rattle.answer.specs.declared.refusal.Refusal.TheVariants.{BadMarkOrLength}
-use Rattle.answer.specs.Delivery.{delivering, Delivers}
-use Rattle.answer.specs.Outcome.{Answer, Meets, row, accepted, choose, decide, over}
+use Rattle.answer.specs.Delivery.{handing, delivering, Delivers}
+use Rattle.answer.specs.Outcome.{Answer, Meets, row, acceptance, accepted, choose, decide, over}
 use Rattle.answer.specs.Tests.{isnt, either, same}
 use Rattle.answer.proofs.Refusals.{either_of}
 use Rattle.answer.proofs.Rows.{Refused, wrong_length, right_length, refused_meets, accepted_meets, delivers_meets}
@@ -219,7 +219,7 @@ Delivered b r o last = Delivers (delivering 0 b (length o)) r o last
 
 -- the refusal of row 17
 refused_17 : (e : Refusal) (r : Answer) → r ≡ Err e → e ≡ BadMarkOrLength → Refused 17 r
-refused_17 e r h k = rw (h, k) (refl, refl, refl)
+refused_17 e r h k = rw (h, k) (refl, refl, refl, refl)
 
 module _ (bad : Bool) (s : ℕ) (want o : List ℕ) where
   pub gives_refused : bad ≡ true → (e : Refusal) (r : Answer) → r ≡ Err e → e ≡ BadMarkOrLength → Meets (giving bad s (length o) want) r o o
@@ -228,10 +228,10 @@ module _ (bad : Bool) (s : ℕ) (want o : List ℕ) where
 
   -- the block goes out
   pub gives : bad ≡ false → (b : List ℕ) (r : Answer) (last : List ℕ) (n : ℕ) → block_size s ≡ n → length b ≡ n → n ≤ 65535 → b ≡ want → Delivered b r o last → Meets (giving bad s (length o) want) r o last
-  unfolding giving delivering decide choose
+  unfolding giving handing acceptance decide choose
   gives h b r last n z l m q d =
       let k : length b ≤ 65535 = omega arith in
-      rw (h, ← q, z, ← l) (delivers_meets 0 b (length o) d k)
+      rw (h, ← q, z, ← l) (delivers_meets 0 0 b (length o) d k)
 
 module _ (bad : Bool) (given want : List ℕ) (r : Answer) where
   pub check_refused : bad ≡ true → (e : Refusal) → r ≡ Err e → e ≡ BadMarkOrLength → Meets (checking bad given want) r [] []
@@ -247,9 +247,9 @@ module _ (bad : Bool) (given want : List ℕ) (r : Answer) where
 
 -- what `accept` of src/challenge.rt ensures
 module _ (t : Bool) (r : Answer) where
-  pub equal_accepted : t ≡ true → (n : Accepted) → r ≡ Ok n → (n.length ≡ 0) × (n.transaction_number ≡ 0) → Meets (decide (row 13 (isnt t) ∷ []) (accepted 0 [])) r [] []
+  pub equal_accepted : t ≡ true → (n : Accepted) → r ≡ Ok n → (n.length ≡ 0) × (n.transaction_number ≡ 0) × (n.padding ≡ 0) → Meets (decide (row 13 (isnt t) ∷ []) (accepted 0 [])) r [] []
   unfolding decide choose isnt over
-  equal_accepted h n q f = rw (h, q) (accepted_meets 0 [] (Ok n) [] [] refl f.0 f.1 refl)
+  equal_accepted h n q f = rw (h, q) (accepted_meets 0 [] (Ok n) [] [] refl f.0 f.1 f.2 refl)
 
   pub unequal_refused : t ≡ false → Refused 13 r → Meets (decide (row 13 (isnt t) ∷ []) (accepted 0 [])) r [] []
   unfolding decide choose isnt
@@ -264,7 +264,7 @@ module _ (x : List ℕ) (r : Answer) (o : List ℕ) where
 
   pub keys_given : (y a b both last : List ℕ) → (length x ≡ 16) × (y ≡ x) → (a ≡ aes_encrypt y (session_key_input 1)) × (b ≡ aes_encrypt y (session_key_input 2)) → both ≡ a ++ b → length both ≡ 32 → Delivered both r o last
       → Meets (deriving_session_keys x (length o)) r o last
-  unfolding deriving_session_keys session_keys delivering decide choose isnt
+  unfolding deriving_session_keys session_keys handing acceptance decide choose isnt
   keys_given y a b both last h k j l m =
       let q : both ≡ aes_encrypt x (session_key_input 1) ++ aes_encrypt x (session_key_input 2) = j ∙ rw (k.0, k.1, h.1) in
-      rw (eq-eqb (length x) 16 h.0, ← q, ← l) (delivers_meets 0 both (length o) m (omega arith))
+      rw (eq-eqb (length x) 16 h.0, ← q, ← l) (delivers_meets 0 0 both (length o) m (omega arith))

@@ -18,7 +18,7 @@ use Rattle.cipher.proofs.Ciphers.{aes_encrypt_block, aes_undone, aes_redone}
 use Rattle.cipher.proofs.DesInverse.{tdea2_decrypt_encrypt, tdea2_encrypt_decrypt, length_tdea2_encrypt, length_tdea2_decrypt, Bytes-tdea2Encrypt, Bytes-tdea2Decrypt}
 use Rattle.cipher.proofs.Numbers.{le_or_lt}
 use Rattle.cipher.proofs.ModeLaws.{Undone, Block-⊕}
-use Rattle.answer.specs.Outcome.{row, refused, accepted, choose, decide}
+use Rattle.answer.specs.Outcome.{row, refused, acceptance, accepted, choose, decide}
 use Rattle.answer.specs.Tests.{isnt, either, same}
 use Rattle.answer.proofs.Rows.{decide_false, either_false, isnt_false, is_number}
 use Rattle.answer.proofs.Refusals.{zero_passes, isnt_of, either_of, same_of}
@@ -158,7 +158,7 @@ module _ (s : ℕ) (keys idm : List ℕ) (e : Ends s keys idm) where
 
   -- the random 1 that the card reads is the one that the reader sent
   pub reads_1a : (x : List ℕ) (room room' : ℕ) → Block (block_size s) x → block_size s ≤ room → block_size s ≤ room' → reading_1a s keys idm (making_1a s keys idm x room).bytes room' ≡ accepted 0 x
-  unfolding accepted
+  unfolding acceptance
   reads_1a x room room' g f f' =
       rw (makes_1a x g room f) (reads_any_1a (under_alpha s keys idm x) (alpha_undone.enc x g) room' f' ∙ ap (accepted 0) (alpha_undone.undo x g))
 
@@ -221,7 +221,7 @@ module _ (s : ℕ) (keys idm : List ℕ) (e : Ends s keys idm) where
 
     -- the random 2 that the reader reads is the one that the card sent
     pub reads_2a : (x : List ℕ) (room room' : ℕ) → Block (block_size s) x → block_size s ≤ room → block_size s ≤ room' → reading_2a s keys idm c3 (making_2a s keys idm c3 x room).bytes room' ≡ accepted 0 x
-    unfolding accepted
+    unfolding acceptance
     reads_2a x room room' g f f' =
         rw (makes_2a x g room f) (reads_any_2a (under_beta s keys idm c3 x) (beta_undone.enc x g) room' f' ∙ ap (accepted 0) (beta_undone.undo x g))
 
@@ -236,12 +236,12 @@ module _ (s : ℕ) (keys idm : List ℕ) (e : Ends s keys idm) where
     module _ (x : List ℕ) (room room' room'' : ℕ) (g : Block (block_size s) x) (f : block_size s ≤ room) (f' : block_size s ≤ room') (f'' : block_size s ≤ room'') where
       -- the card makes 1B from the random 1 that it read, and it is that of the random 1 that the reader sent
       pub answers_1b : making_1b s keys idm c3 (reading_1a s keys idm (making_1a s keys idm x room).bytes room').bytes room'' ≡ accepted 0 (under_beta s keys idm c3 x)
-      unfolding accepted
+      unfolding acceptance
       answers_1b = rw (reads_1a x room room' g f f') (makes_1b x g room'' f'')
 
       -- the reader makes 2B from the random 2 that it read
       pub answers_2b : making_2b s keys idm (reading_2a s keys idm c3 (making_2a s keys idm c3 x room).bytes room').bytes room'' ≡ accepted 0 (under_alpha s keys idm x)
-      unfolding accepted
+      unfolding acceptance
       answers_2b = rw (reads_2a x room room' g f f') (makes_2b x g room'' f'')
 
 -- ---- AES session keys
@@ -273,7 +273,7 @@ module _ (x : List ℕ) (g : Block 16 x) where
 -- the session keys of the random 2 that the reader read are those of the random 2 that the card sent
 pub same_session_keys : (keys idm c3 x : List ℕ) (room room' room'' : ℕ) → Ends 2 keys idm → Block 4 c3 → Block 16 x → 16 ≤ room → 16 ≤ room' → 32 ≤ room''
     → deriving_session_keys (reading_2a 2 keys idm c3 (making_2a 2 keys idm c3 x room).bytes room').bytes room'' ≡ accepted 0 (session_keys x)
-unfolding accepted block_size choose
+unfolding acceptance block_size choose
 same_session_keys keys idm c3 x room room' room'' e f3 g f f' f'' =
     rw (reads_2a 2 keys idm e c3 f3 x room room' g f f') (makes_session_keys x g room'' f'')
 

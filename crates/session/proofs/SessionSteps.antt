@@ -1,5 +1,5 @@
 -- The session's steps: which row decides, and what is left of the session. Assumes nothing.
-use mathlib.Core.Path.{◌≡◌, refl, sym, ap, ◌∙◌}
+use mathlib.Core.Path.{◌≡◌, refl, sym, ap, ap₂, ◌∙◌}
 use mathlib.Core.Bool.{Bool, true, false}
 use mathlib.Core.List.{List, ◌++◌}
 use mathlib.Core.Logic.{◌⊎◌, inl, inr, ⊎_elim}
@@ -19,10 +19,12 @@ use Rattle.answer.specs.declared.scheme.Scheme.{Scheme}
 use Rattle.answer.specs.declared.scheme.Scheme.TheVariants.{Des, Aes128}
 use Rattle.answer.specs.Scheme.{mark_of}
 use Rattle.answer.specs.Refusal.{refusal_number}
-use Rattle.answer.specs.Outcome.{Outcome, Meets, Answer, answer_number, answer_length, answer_transaction, accepted, choose, decide, refused, first_of}
-use Rattle.answer.specs.Delivery.{delivering}
+use Rattle.answer.specs.Outcome.{Outcome, Meets, Answer, answer_number, answer_length, answer_transaction, answer_padding, acceptance, accepted, choose, decide, refused, first_of}
+use Rattle.answer.specs.Delivery.{handing, delivering}
 use Rattle.answer.specs.Tests.{isnt, either, both}
-use Rattle.answer.proofs.Rows.{refusal_some, err_meets, choose_most, numbered, first_holds}
+use Rattle.answer.proofs.Rows.{choose_keeps, refusal_some, err_meets, choose_most, numbered, first_holds}
+use Rattle.answer.proofs.Unpadded.{Unpadded, refused_unpadded, decide_unpadded}
+use Rattle.frame.proofs.Paddings.{opening_unpadded}
 use Rattle.frame.proofs.Schemes.{opening_whole}
 use Rattle.session.specs.Session.{credentials_size, credentials_of, make_rows, filled, Makes, with_number, with_count, Step, stepped, StepsTo, Steps, more, counting, opened, accept_rows, receiving, received, Receives}
 use Rattle.session.specs.declared.context.AuthenticatedContext.{AuthenticatedContext}
@@ -46,12 +48,13 @@ module _ (s : AuthenticatedContext) where
   step_taken h = (ap (λ (x : Step). x.number) (stepped_on h), sym (ap (λ (x : Step). x.session) (stepped_on h)))
 
   -- on the session that is lent
-  steps_as : (t : Step) (r : Answer) (u : AuthenticatedContext) → stepped s ≡ t → (answer_number r ≡ t.number) × (answer_length r ≡ 0) × (answer_transaction r ≡ t.transaction) → u ≡ t.session → Steps s r u
+  steps_as : (t : Step) (r : Answer) (u : AuthenticatedContext) → stepped s ≡ t → (answer_number r ≡ t.number) × (answer_length r ≡ 0) × (answer_transaction r ≡ t.transaction) × (answer_padding r ≡ 0) → u ≡ t.session → Steps s r u
   steps_as t r u q h c =
       record {
         number = h.0 ∙ sym (ap (λ (x : Step). x.number) q);
         length_none = h.1;
         transaction = h.2 ∙ sym (ap (λ (x : Step). x.transaction) q);
+        padding_none = h.3;
         session = c ∙ sym (ap (λ (x : Step). x.session) q);
       }
 
@@ -59,13 +62,13 @@ module _ (s : AuthenticatedContext) where
   steps_refused e h q = rw q (go (eqb s.transaction_number 0xFFFF) refl)
     where
       go : (b : Bool) → eqb s.transaction_number 0xFFFF ≡ b → Steps s (Err e) s
-      go true q = let f = stepped_full (eqb-true _ _ q) in steps_as _ (Err e) s f (sym h.0 ∙ ap (λ (x : Step). x.number) f, refl, refl) refl
+      go true q = let f = stepped_full (eqb-true _ _ q) in steps_as _ (Err e) s f (sym h.0 ∙ ap (λ (x : Step). x.number) f, refl, refl, refl) refl
       go false q =
           let z : 0 ≡ refusal_number e = sym (ap (λ (x : Step). x.number) (stepped_on (eqb-false _ _ q))) ∙ h.0 in
           absurd (refusal_some e (sym z))
 
   pub steps_taken : (a : Accepted) (t u : AuthenticatedContext) → StepsTo s (Ok t) → u ≡ with_number t.transaction_number s
-      → (a.length ≡ 0) × (a.transaction_number ≡ t.transaction_number) → Steps s (Ok a) u
+      → (a.length ≡ 0) × (a.transaction_number ≡ t.transaction_number) × (a.padding ≡ 0) → Steps s (Ok a) u
   unfolding with_number
   steps_taken a t u h e k = go (eqb s.transaction_number 0xFFFF) refl
     where
@@ -74,7 +77,7 @@ module _ (s : AuthenticatedContext) where
       go false q =
           let f = stepped_on (eqb-false _ _ q) in
           let n = ap (λ (x : AuthenticatedContext). x.transaction_number) (h.1 ∙ ap (λ (x : Step). x.session) f) in
-          steps_as _ (Ok a) u f (refl, k.0, k.1 ∙ n) (e ∙ ap (λ (m : ℕ). with_number m s) n)
+          steps_as _ (Ok a) u f (refl, k.0, k.1 ∙ n, k.2) (e ∙ ap (λ (m : ℕ). with_number m s) n)
 
 -- ---- the count
 
@@ -195,6 +198,10 @@ module _ (s : AuthenticatedContext) (code : ℕ) (d : List ℕ) (room : ℕ) whe
   abbrev trial : Outcome
   trial = opened s code d
 
+  opened_unpadded : Unpadded trial
+  unfolding opened
+  opened_unpadded = opening_unpadded s.scheme code 256 (credentials_of s) s.transaction_id d
+
   pub receiving_refused : (e : Refusal) (out : List ℕ) {r : Answer} → r ≡ Err e → refusal_number e ≡ trial.number → Meets (receiving s code d room) r out out
   unfolding receiving opened choose
   receiving_refused e out {r} q n =
@@ -204,26 +211,31 @@ module _ (s : AuthenticatedContext) (code : ℕ) (d : List ℕ) (room : ℕ) whe
   -- the opening was accepted
   module _ (z : 0 ≡ trial.number) where
     goes_on : receiving s code d room ≡ decide (accept_rows s.transaction_number trial.transaction (length trial.bytes) room) (accepted trial.transaction trial.bytes)
-    unfolding receiving choose accepted
+    unfolding receiving choose acceptance
     goes_on =
         rw (eq-eqb _ 0 (sym z))
-        (ap (λ (n : ℕ). decide (accept_rows s.transaction_number trial.transaction (length trial.bytes) room) (record { number = n; transaction = trial.transaction; bytes = trial.bytes })) (sym z))
+        (ap₂ (λ (n p : ℕ). decide (accept_rows s.transaction_number trial.transaction (length trial.bytes) room) (record { number = n; transaction = trial.transaction; padding = p; bytes = trial.bytes })) (sym z) opened_unpadded)
 
     pub not_above : trial.transaction ≤ s.transaction_number → receiving s code d room ≡ refused 15
     unfolding accept_rows decide choose isnt
     not_above h = goes_on ∙ rw (le-ltb _ _ h)
 
     pub above : s.transaction_number < trial.transaction → receiving s code d room ≡ delivering trial.transaction trial.bytes room
-    unfolding accept_rows delivering decide choose isnt
+    unfolding accept_rows handing acceptance decide choose isnt
     above h = goes_on ∙ rw (lt-ltb _ _ h)
+
+  -- no response has padding to tell
+  pub receiving_unpadded : Unpadded (receiving s code d room)
+  unfolding receiving
+  receiving_unpadded = choose_keeps Unpadded refused_unpadded _ _ _ (decide_unpadded _ _ opened_unpadded) opened_unpadded
 
 -- ---- what is left of the session
 
 module _ (s t : AuthenticatedContext) (o : Outcome) (before after : List ℕ) where
   pub receives_refused : (e : Refusal) → Meets o (Err e) before after → t ≡ counting (refusal_number e) s → Receives s o (Err e) t before after
   unfolding received choose
-  receives_refused e m h = record { answer = m; session = h ∙ rw (← m.number, ne_eqb _ 0 (refusal_some e)) }
+  receives_refused e m h = record { answer = m; padding_none = refl; session = h ∙ rw (← m.number, ne_eqb _ 0 (refusal_some e)) }
 
-  pub receives_accepted : (a : Accepted) → Meets o (Ok a) before after → t ≡ with_number a.transaction_number s → Receives s o (Ok a) t before after
+  pub receives_accepted : (a : Accepted) → Meets o (Ok a) before after → Unpadded o → t ≡ with_number a.transaction_number s → Receives s o (Ok a) t before after
   unfolding received choose
-  receives_accepted a m h = record { answer = m; session = h ∙ rw (m.transaction, eq-eqb _ 0 (sym m.number)) }
+  receives_accepted a m u h = record { answer = m; padding_none = m.padding ∙ u; session = h ∙ rw (m.transaction, eq-eqb _ 0 (sym m.number)) }

@@ -3,7 +3,7 @@
 use Rattle.std.specs.Prelude.{ℕ, suc, ◌+◌, ◌-◌, ◌*◌, ◌/◌, ◌%◌, ◌≡◌, List, [], ◌∷◌, ◌++◌, eqb, ltb, length, take, replicate, Result, MatchResult}
 use Rattle.answer.specs.declared.refusal.Refusal.{Refusal}
 use Rattle.answer.specs.Refusal.{refusal_number}
-use Rattle.answer.specs.Outcome.{Outcome, Row, Meets, Answer, answer_number, answer_length, answer_transaction, row, choose, decide, first_of}
+use Rattle.answer.specs.Outcome.{Outcome, Row, Meets, Answer, answer_number, answer_length, answer_transaction, answer_padding, row, choose, decide, first_of}
 use Rattle.frame.specs.Scheme.{opening}
 use Rattle.answer.specs.Tests.{isnt, either, both}
 use Rattle.session.specs.Entries.{nodes}
@@ -110,6 +110,7 @@ pub record Steps (s : AuthenticatedContext) (r : Answer) (t : AuthenticatedConte
   pub number : answer_number r ≡ (stepped s).number
   pub length_none : answer_length r ≡ 0
   pub transaction : answer_transaction r ≡ (stepped s).transaction
+  pub padding_none : answer_padding r ≡ 0
   pub session : t ≡ (stepped s).session
 
 -- the step by value: the session after it, or its refusal, after which the session is s
@@ -149,4 +150,5 @@ received s o = choose (eqb o.number 0) (with_number o.transaction s) (counting o
 -- an answer r, a session that was s and is t, and an output that was `before` and is `after`
 pub record Receives (s : AuthenticatedContext) (o : Outcome) (r : Answer) (t : AuthenticatedContext) (before after : List ℕ) : Type 0 where
   pub answer : Meets o r before after
+  pub padding_none : answer_padding r ≡ 0
   pub session : t ≡ received s o

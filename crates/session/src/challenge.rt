@@ -62,10 +62,10 @@ pub fn encrypt_challenge1a(
 {
     match parse(scheme, keys, idm, random_1)? {
         Parsed::Des(context, random) => {
-            answer::deliver(0, &context.encrypt_challenge1a(random), out)
+            answer::deliver(0, 0, &context.encrypt_challenge1a(random), out)
         }
         Parsed::Aes128(context, random) => {
-            answer::deliver(0, &context.encrypt_challenge1a(random), out)
+            answer::deliver(0, 0, &context.encrypt_challenge1a(random), out)
         }
     }
 }
@@ -81,10 +81,10 @@ pub fn decrypt_challenge1a(
 {
     match parse(scheme, keys, idm, challenge_1a)? {
         Parsed::Des(context, challenge) => {
-            answer::deliver(0, &context.decrypt_challenge1a(challenge), out)
+            answer::deliver(0, 0, &context.decrypt_challenge1a(challenge), out)
         }
         Parsed::Aes128(context, challenge) => {
-            answer::deliver(0, &context.decrypt_challenge1a(challenge), out)
+            answer::deliver(0, 0, &context.decrypt_challenge1a(challenge), out)
         }
     }
 }
@@ -104,10 +104,15 @@ pub fn encrypt_challenge1b(
     let challenge_3c = answer::exact(challenge_3c)?;
     match parse(scheme, keys, idm, random_1)? {
         Parsed::Des(context, random) => {
-            answer::deliver(0, &context.encrypt_challenge1b(random), out)
+            answer::deliver(0, 0, &context.encrypt_challenge1b(random), out)
         }
         Parsed::Aes128(context, random) => {
-            answer::deliver(0, &context.encrypt_challenge1b(random, challenge_3c), out)
+            answer::deliver(
+                0,
+                0,
+                &context.encrypt_challenge1b(random, challenge_3c),
+                out,
+            )
         }
     }
 }
@@ -163,10 +168,11 @@ pub fn decrypt_challenge2a(
     let challenge_3c = answer::exact(challenge_3c)?;
     match parse(scheme, keys, idm, challenge_2a)? {
         Parsed::Des(context, challenge) => {
-            answer::deliver(0, &context.decrypt_challenge2a(challenge), out)
+            answer::deliver(0, 0, &context.decrypt_challenge2a(challenge), out)
         }
         Parsed::Aes128(context, challenge) => {
             answer::deliver(
+                0,
                 0,
                 &context.decrypt_challenge2a(challenge, challenge_3c),
                 out,
@@ -228,5 +234,5 @@ pub fn derive_secure_session_keys(random_2: &[u8], out: &mut [u8]) -> Answer
 {
     let keys = SecureSessionKeys::derive(answer::exact(random_2)?);
     let both = [keys.encryption_key, keys.mac_key];
-    answer::deliver(0, both.as_flattened(), out)
+    answer::deliver(0, 0, both.as_flattened(), out)
 }

@@ -215,6 +215,7 @@ impl AuthenticatedContext {
         }
         answer::deliver(
             opened.transaction_number,
+            0,
             &work[..usize::from(opened.length)],
             out,
         )

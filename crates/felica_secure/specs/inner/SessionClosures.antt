@@ -1,14 +1,14 @@
 -- What a closure on a session does, as a call of specs/Calls. Assumes nothing.
 use Rattle.std.specs.Prelude.{ℕ, ◌≡◌, List}
 use Rattle.std.specs.Borrow.{MutBor}
-use Rattle.answer.specs.Outcome.{Answer, answer_number, answer_length, answer_transaction, over}
+use Rattle.answer.specs.Outcome.{Answer, answer_number, answer_length, answer_transaction, answer_padding, over}
 use Rattle.felica_secure.specs.Calls.{Call}
-use Rattle.felica_secure.specs.Packed.{packed}
+use Rattle.felica_secure.specs.Packed.{packed_sealed}
 use Rattle.session.specs.declared.context.AuthenticatedContext.{AuthenticatedContext}
 
 -- an answer as C gets it
 abbrev pub packed_answer : Answer → ℕ
-packed_answer r = packed (answer_number r) 0 (answer_length r) (answer_transaction r)
+packed_answer r = packed_sealed (answer_number r) 0 (answer_length r) (answer_transaction r) (answer_padding r)
 
 -- whatever it answers of the session s, and leaves of an output that was out, is what the call says
 abbrev pub Telling : (AuthenticatedContext → MutBor (List ℕ) → Answer → MutBor (List ℕ) → Type 0) → AuthenticatedContext → List ℕ → (AuthenticatedContext → Call AuthenticatedContext) → Type 0

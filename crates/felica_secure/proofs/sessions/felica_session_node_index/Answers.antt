@@ -6,4 +6,4 @@ use Rattle.felica_secure.proofs.sessions.felica_session_node_index.Goals as goal
 
 pub returns : goal.returns
 unfolding call_index telling
-returns c = told_by_map (call_index c.args.node) _ _ _ _ _ c.load.ensures c.map.ensures.cases c.pack.ensures (λ s a k. (search rules, search rules))
+returns c = told_by_map (call_index c.args.node) _ _ _ _ _ c.load.ensures c.map.ensures.cases c.pack.ensures (λ s a k. (search rules, search rules, search rules))

@@ -18,5 +18,5 @@ unfolding call_nodes answering
 returns c = rw c.pack.ensures (c.tell.ensures (call_nodes (length c.args.out.now)) (λ x y r e k.
     let s = decode c.args.session.now in
     let d : Delivers (delivering 0 (take (listed_count s.node_count * 2) s.nodes) (length c.args.out.now)) r c.args.out.now y.now = search rules in
-    let m = delivers_meets _ _ _ d (no_longer _ 65535 _ _ refl (omega (arith, decoded_nodes c.args.session.now))) in
-    (rw (m.number, m.length_is, m.transaction), m.output)))
+    let m = delivers_meets _ 0 _ _ d (no_longer _ 65535 _ _ refl (omega (arith, decoded_nodes c.args.session.now))) in
+    (rw (m.number, m.length_is, m.transaction, m.padding), m.output)))

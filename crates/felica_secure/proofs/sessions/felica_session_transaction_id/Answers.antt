@@ -13,5 +13,5 @@ pub returns : goal.returns
 unfolding call_id answering
 returns c = rw c.pack.ensures (c.tell.ensures (call_id (length c.args.out.now)) (λ x y r e k.
     let d : Delivers (delivering 0 (decode c.args.session.now).transaction_id (length c.args.out.now)) r c.args.out.now y.now = search rules in
-    let m = delivers_meets _ _ _ d (omega (arith, decoded_id c.args.session.now)) in
-    (rw (m.number, m.length_is, m.transaction), m.output)))
+    let m = delivers_meets _ 0 _ _ d (omega (arith, decoded_id c.args.session.now)) in
+    (rw (m.number, m.length_is, m.transaction, m.padding), m.output)))

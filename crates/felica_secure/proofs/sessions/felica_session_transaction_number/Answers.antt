@@ -6,4 +6,4 @@ use Rattle.felica_secure.proofs.sessions.felica_session_transaction_number.Goals
 
 pub returns : goal.returns
 unfolding call_number telling
-returns c = told_by_map call_number _ _ _ _ _ c.load.ensures c.map.ensures.cases c.pack.ensures (λ s a k. (search rules, search rules))
+returns c = told_by_map call_number _ _ _ _ _ c.load.ensures c.map.ensures.cases c.pack.ensures (λ s a k. (search rules, search rules, search rules))

@@ -20,4 +20,4 @@ returns-in_err-context c =
 pub returns : goal.returns
 returns c =
     let m = c.in_ok-context.ensures in
-    making_made kept_session _ _ _ _ c.if-session-ne178.false _ (sym m.0) (make_numbers _ _ _ _) refl _ _ m.1 c.store.ensures (omega arith) (rw (c.sized.ensures.0, c.sized.ensures.1))
+    making_made kept_session _ _ _ _ c.if-session-ne178.false _ (sym m.0) (make_numbers _ _ _ _) refl _ _ m.1 c.store.ensures (omega arith) (rw (c.sized.ensures.0, c.sized.ensures.1, c.sized.ensures.2))

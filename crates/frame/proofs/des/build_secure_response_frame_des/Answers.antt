@@ -11,7 +11,7 @@ use Rattle.frame.proofs.des.build_secure_response_frame_des.Goals as goal
 pub returns-in_err-sealed : goal.returns-in_err-sealed
 returns-in_err-sealed c =
     let a = c.args in
-    rw (des_frame_steps a.key.now a.id.now a.payload.now a.code a.number (length a.out.now)) (refused_frame _ _ _ a.code _ c.in_err-sealed.field-0.0 a.out.now (search rules) c.in_err-sealed.ensures)
+    rw (des_frame_steps a.key.now a.id.now a.payload.now a.code a.number (length a.out.now)) (refused_frame _ _ _ _ a.code _ c.in_err-sealed.field-0.0 a.out.now (search rules) c.in_err-sealed.ensures)
 
 pub returns : goal.returns
 unfolding numbered both seal_rows des_size
@@ -20,5 +20,5 @@ returns c =
     let s = c.in_ok-sealed.ensures in
     let t = c.frame_with_length_prefix-end.ensures in
     rw (des_frame_steps a.key.now a.id.now a.payload.now a.code a.number (length a.out.now))
-    (delivered_frame (seal_rows (length a.id.now) (length a.key.now) (length a.payload.now)) (des_sealed a.key.now a.code a.number a.id.now a.payload.now) (des_size (length a.payload.now)) refl _ _ _ s (length a.out.now) a.code _ (omega arith)
+    (delivered_frame (seal_rows (length a.id.now) (length a.key.now) (length a.payload.now)) (des_sealed a.key.now a.code a.number a.id.now a.payload.now) (des_size (length a.payload.now)) _ refl _ _ _ s (length a.out.now) a.code _ (omega arith)
     (frame_front _ a.code _ (replicate 256 0) _ _ _ _ (s.1 ∙ s.3) (omega arith) s.4 t.1) (rw t.0 at c.deliver.ensures))

@@ -5,7 +5,7 @@ use native.Mathlib.Omega.{arith}
 use lib.ListN.{length, replicate}
 use lib.Seq.{length-take-le}
 use Rattle.answer.specs.Number.{number_of}
-use Rattle.answer.specs.Outcome.{Outcome, accepted, over}
+use Rattle.answer.specs.Outcome.{Outcome, acceptance, over}
 use Rattle.answer.specs.Refusal.{refusal_number}
 use Rattle.frame.specs.DesFrame.{des_plain, payload_of}
 use Rattle.frame.specs.Trimmed.{trim}
@@ -43,7 +43,7 @@ trim_payload-payload-requires c =
     rw (length-take-le c.from-n.result c.decrypt_secure_response_des.new.out (omega arith), c.from-n.ensures) w
 
 pub returns : goal.returns
-unfolding accepted
+unfolding acceptance
 returns c =
     let a = c.args in
     let m = c.in_ok-opened.ensures in
@@ -54,4 +54,4 @@ returns c =
     let w = front pl (replicate 256 0) c.decrypt_secure_response_des.new.out _ (sym n) (m.output ∙ ap (λ (o : Outcome). over o.bytes (replicate 256 0)) t.0) in
     let y : c.trim_payload-payload.result.now ≡ trim pl = c.trim_payload-payload.ensures ∙ ap trim w in
     let l : length (trim pl) ≤ 65535 = trim_no_longer pl 65535 (omega (arith, t.2)) in
-    rw t.1 (delivers_meets _ _ _ (rw y at (rw x at c.deliver.ensures)) l)
+    rw t.1 (delivers_meets _ 0 _ _ (rw y at (rw x at c.deliver.ensures)) l)

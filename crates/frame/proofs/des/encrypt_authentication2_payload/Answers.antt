@@ -33,14 +33,14 @@ returns-then-n-gt-AUTHENTICATION2_MAX c =
     rw (auth2_seal_steps a.key.now a.payload.now (length a.out.now))
     (row_meets (auth2_seal_rows (length a.key.now) n) _ _ a.out.now refl (rw (eq-eqb _ _ c.in_ok-key.ensures.0, lt-ltb _ _ h)))
 
-pub seal_front-end-requires : goal.seal_front-end-requires
-seal_front-end-requires c = omega (arith, short_padded _ c.if-n-gt-AUTHENTICATION2_MAX.false)
+pub seal_front-sealed-requires : goal.seal_front-sealed-requires
+seal_front-sealed-requires c = omega (arith, short_padded _ c.if-n-gt-AUTHENTICATION2_MAX.false)
 
 pub slice_bounds-work-end : goal.slice_bounds-work-end
-slice_bounds-work-end c = omega (arith, short_padded _ c.if-n-gt-AUTHENTICATION2_MAX.false, c.seal_front-end.ensures.0)
+slice_bounds-work-end c = omega (arith, short_padded _ c.if-n-gt-AUTHENTICATION2_MAX.false, c.seal_front-sealed.ensures.front.0)
 
 pub slice_bounds-deliver-end : goal.slice_bounds-deliver-end
-slice_bounds-deliver-end c = sym (length-take-le _ _ (omega (arith, short_padded _ c.if-n-gt-AUTHENTICATION2_MAX.false, c.seal_front-end.ensures.0)))
+slice_bounds-deliver-end c = sym (length-take-le _ _ (omega (arith, short_padded _ c.if-n-gt-AUTHENTICATION2_MAX.false, c.seal_front-sealed.ensures.front.0)))
 
 pub returns : goal.returns
 unfolding auth2_sealed auth2_size auth2_seal_rows numbered both first_of choose isnt
@@ -50,8 +50,8 @@ returns c =
     let o = a.out.now in
     let k = c.in_ok-key.ensures in
     let l = short_padded _ c.if-n-gt-AUTHENTICATION2_MAX.false in
-    let q = sealed_over auth2_code (length p) _ c.in_ok-key.key p (replicate 256 0) _ _ refl (copied_over p (replicate 256 0) _ (omega arith) c.copy.ensures) c.seal_front-end.ensures in
+    let q = sealed_over auth2_code (length p) _ c.in_ok-key.key p (replicate 256 0) _ _ refl (copied_over p (replicate 256 0) _ (omega arith) c.copy.ensures) c.seal_front-sealed.ensures.front in
     let b : des_seal c.in_ok-key.key auth2_code (pad p) ≡ des_seal a.key.now auth2_code (pad p) = ap (λ (k : List ℕ). des_seal k auth2_code (pad p)) k.1 in
     rw (auth2_seal_steps a.key.now p (length o))
-    (delivered (auth2_seal_rows (length a.key.now) (length p)) (des_seal a.key.now auth2_code (pad p)) (length p + pad_count (length p) + 8) refl c.seal_front-end.result (replicate 256 0) c.seal_front-end.new.out
-    (rw (eq-eqb _ _ k.0, le-ltb _ _ l), c.seal_front-end.ensures.0, omega arith, sym c.seal_front-end.ensures.0 ∙ q.0 ∙ ap length b, q.1 ∙ ap (λ (z : List ℕ). over z (replicate 256 0)) b) (length o) c.deliver.ensures)
+    (delivered (auth2_seal_rows (length a.key.now) (length p)) (des_seal a.key.now auth2_code (pad p)) (length p + pad_count (length p) + 8) (pad_count (length p)) refl c.seal_front-sealed.result (replicate 256 0) c.seal_front-sealed.new.out
+    (rw (eq-eqb _ _ k.0, le-ltb _ _ l), c.seal_front-sealed.ensures.front.0, omega arith, sym c.seal_front-sealed.ensures.front.0 ∙ q.0 ∙ ap length b, q.1 ∙ ap (λ (z : List ℕ). over z (replicate 256 0)) b, c.seal_front-sealed.ensures.padding) (length o) c.deliver.ensures)

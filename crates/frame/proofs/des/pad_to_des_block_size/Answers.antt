@@ -11,4 +11,4 @@ slice_bounds-fill-end c = omega (arith, padded_length c.args.len, c.next_multipl
 pub returns : goal.returns
 returns c =
     let e : c.next_multiple_of-end.result ≡ c.args.len + pad_count c.args.len = omega (arith, padded_length c.args.len, c.next_multiple_of-end.ensures.value) in
-    (e, padded_front c.args.out.now _ c.args.len _ c.requires e (c.fill.ensures.after (λ y h. h)))
+    (e, omega arith, padded_front c.args.out.now _ c.args.len _ c.requires e (c.fill.ensures.after (λ y h. h)))

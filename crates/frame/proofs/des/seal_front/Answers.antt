@@ -14,19 +14,19 @@ use Rattle.frame.proofs.des.seal_front.Goals as goal
 pub unwrap-requires : goal.unwrap-requires
 unwrap-requires c =
     let len = c.args.len in
-    let r = c.pad_to_des_block_size-end.result in
-    accepts_front 8 (r + 8) (with_part c.pad_to_des_block_size-end.new.out r (r + 8 - r) c.copy_from_slice.new.self) _ c.encrypt_des_cbc_zero_iv.ensures.ok (omega (arith, c.copy_from_slice.auto.self)) (rw c.pad_to_des_block_size-end.ensures.0 (omega (arith, pad_count_whole len)))
+    let r = c.pad_to_des_block_size-padded.result.end in
+    accepts_front 8 (r + 8) (with_part c.pad_to_des_block_size-padded.new.out r (r + 8 - r) c.copy_from_slice.new.self) _ c.encrypt_des_cbc_zero_iv.ensures.ok (omega (arith, c.copy_from_slice.auto.self)) (rw c.pad_to_des_block_size-padded.ensures.0 (omega (arith, pad_count_whole len)))
 
 pub returns : goal.returns
 returns c =
     let o = c.args.out.now in
     let len = c.args.len in
-    let r = c.pad_to_des_block_size-end.result in
-    let s = c.pad_to_des_block_size-end.new.out in
+    let r = c.pad_to_des_block_size-padded.result.end in
+    let s = c.pad_to_des_block_size-padded.new.out in
     let m = c.calculate_command_mac_des-mac.result in
-    let end = c.pad_to_des_block_size-end.ensures.0 in
-    let es = c.pad_to_des_block_size-end.ensures.1 in
+    let end = c.pad_to_des_block_size-padded.ensures.0 in
+    let es = c.pad_to_des_block_size-padded.ensures.2 in
     let lm : length m ≡ 8 = omega arith in
     let e2 = placed_next (pad (take len o)) o s r (r + 8 - r) (length_padded c.args.code len r c.args.key o c.requires end) (omega arith) es m _ (omega arith) c.copy_from_slice.ensures.after in
     let q = sealed_front c.args.code len r c.args.key o c.requires end s m _ _ es c.calculate_command_mac_des-mac.ensures lm e2 c.encrypt_des_cbc_zero_iv.ensures.after c.encrypt_des_cbc_zero_iv.auto.data in
-    (search rules, q.0, q.1)
+    record { front = (search rules, q.0, q.1); padding = c.pad_to_des_block_size-padded.ensures.1 }

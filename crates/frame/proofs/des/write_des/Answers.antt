@@ -35,5 +35,5 @@ returns c =
     let six : length h.transaction_id ≡ 6 = omega arith in
     let f : length p ≤ length (take (length s - 8) (drop 8 s)) = rw (rest_part s 8, length-drop) (omega arith) in
     let e = copied_behind (header h.transaction_number h.transaction_id) o s 8 (length_header h.transaction_number h.transaction_id six) c.write.ensures p (length s - 8) f _ c.copy.ensures in
-    let w = written_des c.args.code h.transaction_number _ c.args.key h.transaction_id p o _ _ six e c.seal_front.ensures in
-    record { size = w.0; out_after = w.1 }
+    let w = written_des c.args.code h.transaction_number _ c.args.key h.transaction_id p o _ _ six e c.seal_front.ensures.front in
+    record { size = (w.0, w.1); padding = c.seal_front.ensures.padding; out_after = w.2 }

@@ -41,4 +41,4 @@ returns c =
     let w = c.write_package-length.ensures in
     let b : packaged c.in_ok-key.key p ≡ packaged a.key.now p = ap (λ (k : List ℕ). packaged k p) k.1 in
     passed_meets _ _ _ o _ (package_none (length a.key.now) (length p) (length o) k.0 c.if-n-eq0.false c.if-n-ne0.false c.if-n-gt-PACKAGE_MAX.false c.if-out-n.false)
-    (accepted_meets 0 _ _ o _ refl (c.sized.ensures.0 ∙ w.1 ∙ ap length b) c.sized.ensures.1 (w.2 ∙ ap (λ (l : List ℕ). over l o) b))
+    (accepted_meets 0 _ _ o _ refl (c.sized.ensures.0 ∙ w.1 ∙ ap length b) c.sized.ensures.1 c.sized.ensures.2 (w.2 ∙ ap (λ (l : List ℕ). over l o) b))

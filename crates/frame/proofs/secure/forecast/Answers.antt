@@ -23,7 +23,7 @@ overflow_cast-branch c = let s = c.in_ok-size_des-in-Des.ensures in omega (arith
 pub returns-in_ok-size_des-in-Des : goal.returns-in_ok-size_des-in-Des
 returns-in_ok-size_des-in-Des c =
     let m : c.args.scheme ≡ 1 = sym c.in_ok-try_from.ensures ∙ ap mark_of c.in-Des.is in
-    forecast_sized c.args.scheme c.args.payload_len (Ok c.sized.result) (inl m) 232 _ (forecast_des _ _ m) _ c.in_ok-size_des-in-Des.ensures (refl, c.sized.ensures.0, c.sized.ensures.1)
+    forecast_sized c.args.scheme c.args.payload_len (Ok c.sized.result) (inl m) 232 _ (forecast_des _ _ m) _ c.in_ok-size_des-in-Des.ensures (refl, c.sized.ensures.0, c.sized.ensures.1, c.sized.ensures.2)
 
 pub returns-in_err-size_aes-in-Aes128 : goal.returns-in_err-size_aes-in-Aes128
 returns-in_err-size_aes-in-Aes128 c =
@@ -38,4 +38,4 @@ pub returns-in_ok-size_aes-in-Aes128 : goal.returns-in_ok-size_aes-in-Aes128
 unfolding aes_size
 returns-in_ok-size_aes-in-Aes128 c =
     let m : c.args.scheme ≡ 2 = sym c.in_ok-try_from.ensures ∙ ap mark_of c.in-Aes128.is in
-    forecast_sized c.args.scheme c.args.payload_len (Ok c.sized-in-Aes128.result) (inr m) 243 _ (forecast_aes _ _ m) _ c.in_ok-size_aes-in-Aes128.ensures (refl, c.sized-in-Aes128.ensures.0, c.sized-in-Aes128.ensures.1)
+    forecast_sized c.args.scheme c.args.payload_len (Ok c.sized-in-Aes128.result) (inr m) 243 _ (forecast_aes _ _ m) _ c.in_ok-size_aes-in-Aes128.ensures (refl, c.sized-in-Aes128.ensures.0, c.sized-in-Aes128.ensures.1, c.sized-in-Aes128.ensures.2)

@@ -11,7 +11,7 @@ use Rattle.frame.proofs.v2_aes.build_secure_response_frame_v2_aes128.Goals as go
 pub returns-in_err-sealed : goal.returns-in_err-sealed
 returns-in_err-sealed c =
     let a = c.args in
-    rw (aes_frame_steps a.credentials.now a.id.now a.payload.now a.code a.number (length a.out.now)) (refused_frame _ _ _ a.code _ c.in_err-sealed.field-0.0 a.out.now (search rules) c.in_err-sealed.ensures)
+    rw (aes_frame_steps a.credentials.now a.id.now a.payload.now a.code a.number (length a.out.now)) (refused_frame _ _ _ _ a.code _ c.in_err-sealed.field-0.0 a.out.now (search rules) c.in_err-sealed.ensures)
 
 pub returns : goal.returns
 unfolding numbered both aes_seal_rows aes_size
@@ -20,5 +20,5 @@ returns c =
     let s = c.in_ok-sealed.ensures in
     let t = c.frame_with_length_prefix-end.ensures in
     rw (aes_frame_steps a.credentials.now a.id.now a.payload.now a.code a.number (length a.out.now))
-    (delivered_frame (aes_seal_rows (length a.id.now) (length a.credentials.now) (length a.payload.now)) (aes_sealed a.credentials.now a.code a.number a.id.now a.payload.now) (aes_size (length a.payload.now)) refl _ _ _ s (length a.out.now) a.code _ (omega arith)
+    (delivered_frame (aes_seal_rows (length a.id.now) (length a.credentials.now) (length a.payload.now)) (aes_sealed a.credentials.now a.code a.number a.id.now a.payload.now) (aes_size (length a.payload.now)) 0 refl _ _ _ s (length a.out.now) a.code _ (omega arith)
     (frame_front _ a.code _ (replicate 256 0) _ _ _ _ (s.1 ∙ s.3) (omega arith) s.4 t.1) (rw t.0 at c.deliver.ensures))

@@ -1,4 +1,4 @@
-use mathlib.Core.Path.{◌≡◌, sym, ap, ap₂, ◌∙◌}
+use mathlib.Core.Path.{◌≡◌, refl, sym, ap, ap₂, ◌∙◌}
 use Prim.Native.Nat.{ℕ}
 use native.Mathlib.Omega.{arith}
 use borrow.Author.Rules.{rules}
@@ -16,18 +16,18 @@ use Rattle.frame.proofs.v2_aes.seal_aes.Goals as goal
 
 pub returns-in_err-id : goal.returns-in_err-id
 unfolding aes_seal_rows
-returns-in_err-id c = not_sealed _ _ _ c.in_err-id.field-0.0 _ (search rules) (first_17 _ _ 6 36 _ _ c.in_err-id.ensures)
+returns-in_err-id c = not_sealed _ _ _ _ c.in_err-id.field-0.0 _ (search rules) (first_17 _ _ 6 36 _ _ c.in_err-id.ensures)
 
 pub returns-in_err-credentials : goal.returns-in_err-credentials
 unfolding aes_seal_rows
-returns-in_err-credentials c = not_sealed _ _ _ c.in_err-credentials.field-0.0 _ (search rules) (second_17 _ _ 6 36 _ _ c.in_err-credentials.ensures)
+returns-in_err-credentials c = not_sealed _ _ _ _ c.in_err-credentials.field-0.0 _ (search rules) (second_17 _ _ 6 36 _ _ c.in_err-credentials.ensures)
 
 pub returns-in_err-size : goal.returns-in_err-size
 unfolding aes_seal_rows first_of choose isnt either
 returns-in_err-size c =
     let a = c.args in
     let h = c.in_err-size.ensures in
-    not_sealed (aes_seal_rows (length a.id.now) (length a.credentials.now) (length a.payload.now)) _ _ c.in_err-size.field-0.0 _ (search rules)
+    not_sealed (aes_seal_rows (length a.id.now) (length a.credentials.now) (length a.payload.now)) _ _ _ c.in_err-size.field-0.0 _ (search rules)
     (rw (eq-eqb _ _ c.in_ok-id.ensures.0, eq-eqb _ _ c.in_ok-credentials.ensures.0, lt-ltb _ _ h.0) (ap refusal_number (sym h.1)))
 
 pub returns : goal.returns
@@ -45,4 +45,5 @@ returns c =
       omega (arith, s.0),
       w.size ∙ ap length b,
       w.out_after ∙ ap (λ (l : List ℕ). over l a.work.now) b,
+      refl,
     )

@@ -46,4 +46,4 @@ returns c =
     let f = fits_front b (replicate 256 0) c.open.new.out m.output c.open.auto.out in
     let w : take c.from.result c.open.new.out ≡ b = front b (replicate 256 0) c.open.new.out _ (sym n) m.output in
     rw (above a.self.now a.code a.«data».now (length a.out.now) m.number (rw m.transaction at c.if-opened-self.false))
-    (delivers_meets _ b _ (rw w at (rw m.transaction at c.deliver.ensures)) (omega (arith, f)))
+    (delivers_meets _ 0 b _ (rw w at (rw m.transaction at c.deliver.ensures)) (omega (arith, f)))
