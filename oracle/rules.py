@@ -272,7 +272,10 @@ def counts(rules, operation, inputs):
 
 def padding(operation, inputs):
     """How many bytes an accepted sealing added: with DES what the payload lacks of whole blocks, with AES none."""
-    scheme = {"auth2seal": DES, "send": getattr(inputs[0], "scheme", None)}.get(operation, inputs[0])
+    if operation == "auth2seal":
+        scheme = DES
+    else:
+        scheme = inputs[0].scheme if operation == "send" else inputs[0]
     return -len(inputs[-1]) % 8 if scheme == DES else 0
 
 

@@ -45,9 +45,9 @@ void refuses(const struct call *c, uint64_t refusal);
 // The padding that an acceptance of the call has to tell, as bits of the answer: 0 where nothing is sealed.
 uint64_t padding_bits(const struct call *c);
 
-// The call is accepted with this transaction number, its padding, and n bytes, in an output of n bytes and in larger ones, and turned down with 16 in
-// smaller ones, which change no session. The bytes are `wanted`; where that is NULL any, but the same each time. They are copied to `got`
-// if that is not NULL.
+// The call is accepted with this transaction number, its padding, and n bytes, in an output of n bytes and in larger ones, and turned down
+// with 16 in smaller ones, which change no session. The bytes are `wanted`; where that is NULL any, but the same each time. They are copied
+// to `got` if that is not NULL.
 void gives(const struct call *c, unsigned transaction, size_t n, const uint8_t *wanted, uint8_t *got);
 
 // The same for a derivation, which is accepted with a scheme.

@@ -156,7 +156,8 @@ def main():
     folder = sys.argv[1]
     rows, calls = read_expected(), list(read_calls(folder))
     faults = not_called(calls) + list(all_faults(rows, calls))
-    text = ["## By function", ""] + list(by_function(rows, calls))
+    # rows that differ in the C function alone may read the same
+    text = ["## By function", ""] + list(dict.fromkeys(by_function(rows, calls)))
     text += ["", "## By call", "", "\"600 at 40\": 600 times in the call, at 40 places of the code.", ""]
     text += list(by_call(rows, calls)) + [""]
     with open(os.path.join(folder, "report.md"), "w", encoding="utf-8") as f:

@@ -28,11 +28,15 @@ unfolding isnt
 isnt_false true h = refl
 isnt_false false h = sym h
 
+-- what both have, the one that is chosen has
+pub choose_keeps : {A : Type 0} (P : A → Type 0) (t : Bool) (a b : A) → P a → P b → P (choose t a b)
+unfolding choose
+choose_keeps P true a b p q = p
+choose_keeps P false a b p q = q
+
 -- one of two numbers that are at most n
 pub choose_most : (t : Bool) (a b n : ℕ) → a ≤ n → b ≤ n → choose t a b ≤ n
-unfolding choose
-choose_most true a b n p q = p
-choose_most false a b n p q = q
+choose_most t a b n = choose_keeps (λ (k : ℕ). k ≤ n) t a b
 
 -- a number that had to be n
 pub is_number : (m n : ℕ) → isnt (eqb m n) ≡ false → m ≡ n
@@ -41,16 +45,10 @@ is_number m n h = eqb-true m n (isnt_false (eqb m n) h)
 -- ---- rows
 
 -- what refusals and o have, o behind rows has
-module _ (P : Outcome → Type 0) (refusals : (k : ℕ) → P (refused k)) where
-  pub choose_keeps : (t : Bool) (a b : Outcome) → P a → P b → P (choose t a b)
-  unfolding choose
-  choose_keeps true a b p q = p
-  choose_keeps false a b p q = q
-
-  pub decide_keeps : (rs : List Row) (o : Outcome) → P o → P (decide rs o)
-  unfolding decide
-  decide_keeps [] o p = p
-  decide_keeps (r ∷ rs) o p = choose_keeps r.holds (refused r.number) (decide rs o) (refusals r.number) (decide_keeps rs o p)
+pub decide_keeps : (P : Outcome → Type 0) → ((k : ℕ) → P (refused k)) → (rs : List Row) (o : Outcome) → P o → P (decide rs o)
+unfolding decide
+decide_keeps P refusals [] o p = p
+decide_keeps P refusals (r ∷ rs) o p = choose_keeps P r.holds (refused r.number) (decide rs o) (refusals r.number) (decide_keeps P refusals rs o p)
 
 -- no row holds
 abbrev pub AllFalse : List Row → Type 0

@@ -22,6 +22,7 @@ use Rattle.frame.proofs.AesTrip.{AesDomain, aes_opens, aes_opens_exactly, aes_re
 use Rattle.frame.proofs.DesSeals.{size_most}
 use Rattle.frame.proofs.DesTrip.{DesDomain, des_opens_padded, des_opens, des_opens_exactly, des_refuses_exactly, des_sealed_long}
 use Rattle.answer.proofs.Refusals.{refused_number}
+use Rattle.answer.proofs.Rows.{choose_keeps}
 use Rattle.frame.proofs.Pads.{pad_count_small, sealed_padding_none, length_pad}
 use Rattle.frame.proofs.Rooms.{des_short_room, des_means_short, aes_short_room, aes_means_short}
 use Rattle.frame.proofs.Schemes.{sealing_known}
@@ -66,11 +67,6 @@ choose_short : (b : Bool) (n : ℕ) → n ≤ choose b 232 243 → (choose b (de
 unfolding choose
 choose_short true n h = let m = size_most n h in (omega arith, omega arith)
 choose_short false n h = (omega arith, omega arith)
-
-choose_some : (b : Bool) (m n : ℕ) → 0 < m → 0 < n → 0 < choose b m n
-unfolding choose
-choose_some true m n h i = h
-choose_some false m n h i = i
 
 -- ---- DES
 
@@ -233,7 +229,7 @@ module _ (scheme : ℕ) (c id : List ℕ) (code : ℕ) (f : Frames scheme c id c
 -- sealed data has some bytes
 pub size_some : (scheme n : ℕ) → 0 < sealed_size scheme n
 unfolding sealed_size des_size aes_size
-size_some scheme n = choose_some (eqb scheme 1) (n + 8 + pad_count (n + 8) + 8) (n + 10) (omega arith) (omega arith)
+size_some scheme n = choose_keeps (λ (k : ℕ). 0 < k) (eqb scheme 1) (n + 8 + pad_count (n + 8) + 8) (n + 10) (omega arith) (omega arith)
 
 -- ---- whatever was sealed, of whole blocks or not, opens at 0
 

@@ -10,6 +10,7 @@ use lib.ListN.{length, replicate, length-append, length-replicate}
 use Rattle.std.specs.Prelude.{◌≢◌}
 use Rattle.cipher.specs.Bytes.{Bytes}
 use Rattle.answer.specs.Outcome.{choose}
+use Rattle.answer.proofs.Rows.{choose_keeps}
 use Rattle.cipher.proofs.ByteLists.{Bytes-append, Bytes-replicate}
 use Rattle.frame.specs.Padding.{pad_count, pad}
 use Rattle.frame.specs.Scheme.{sealed_padding}
@@ -43,11 +44,8 @@ sealed_padding_none scheme n h = by (eqb scheme 1) refl where
   by false e = refl
 
 pub sealed_padding_small : (scheme n : ℕ) → sealed_padding scheme n < 8
-unfolding sealed_padding choose
-sealed_padding_small scheme n = by (eqb scheme 1) where
-  by : (b : Bool) → choose b (pad_count (n + 8)) 0 < 8
-  by true = pad_count_small (n + 8)
-  by false = omega arith
+unfolding sealed_padding
+sealed_padding_small scheme n = choose_keeps (λ (k : ℕ). k < 8) (eqb scheme 1) (pad_count (n + 8)) 0 (pad_count_small (n + 8)) (omega arith)
 
 pub length_pad : (l : List ℕ) → length (pad l) ≡ length l + pad_count (length l)
 unfolding pad

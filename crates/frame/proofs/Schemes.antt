@@ -87,7 +87,7 @@ module _ (scheme : ℕ) (c id payload : List ℕ) (code number room : ℕ) where
 -- what refusals and the outcomes of both schemes have, the outcome by mark has
 pub by_scheme_keeps : (P : Outcome → Type 0) → ((k : ℕ) → P (refused k)) → (s : ℕ) (a b : Outcome) → P a → P b → P (by_scheme s a b)
 unfolding by_scheme
-by_scheme_keeps P refusals s a b p q = choose_keeps P refusals (eqb s 1) a _ p (choose_keeps P refusals (eqb s 2) b _ q (refusals 17))
+by_scheme_keeps P refusals s a b p q = choose_keeps P (eqb s 1) a _ p (choose_keeps P (eqb s 2) b _ q (refusals 17))
 
 -- a refusal of sealing or opening is all of its outcome
 pub sealing_whole : (scheme code number room : ℕ) (c id payload : List ℕ) → Whole (sealing scheme c code number id payload room)
@@ -96,7 +96,7 @@ sealing_whole scheme code number room c id payload = by_scheme_keeps Whole refus
 
 pub responding_whole : (scheme code number room : ℕ) (c id payload : List ℕ) → Whole (responding scheme c code number id payload room)
 unfolding responding framing
-responding_whole scheme code number room c id payload = choose_keeps Whole refused_whole _ _ _ (acceptance_whole 0 _ _) (sealing_whole scheme code number (room - 2) c id payload)
+responding_whole scheme code number room c id payload = choose_keeps Whole _ _ _ (acceptance_whole 0 _ _) (sealing_whole scheme code number (room - 2) c id payload)
 
 pub opening_whole : (scheme code room : ℕ) (c id d : List ℕ) → Whole (opening scheme c code id d room)
 unfolding opening des_opening aes_opening

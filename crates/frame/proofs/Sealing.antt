@@ -1,5 +1,5 @@
--- Sealing answers with the sealed data and its padding, for each number and each payload that fits, wherever there is room; and it answers 0 nowhere else. In both
--- schemes at once, then in each. Assumes nothing.
+-- Sealing answers with the sealed data and its padding, for each number and each payload that fits, wherever there is room; and it answers 0
+-- nowhere else. In both schemes at once, then in each. Assumes nothing.
 use mathlib.Core.Path.{◌≡◌, refl, sym, ap, ◌∙◌}
 use mathlib.Core.List.{List, [], ◌∷◌}
 use mathlib.Core.Logic.{◌⊎◌, inl, inr, ⊎_elim}

@@ -11,6 +11,7 @@ use lib.Dec.{eqb, ltb}
 use Rattle.cipher.proofs.Numbers.{le_or_lt}
 use Rattle.answer.specs.Outcome.{Outcome, choose}
 use Rattle.answer.specs.Tests.{both}
+use Rattle.answer.proofs.Rows.{choose_keeps}
 use Rattle.session.specs.History.{Event, step, setting, response, next, after, refusal, refusals, least, after_steps}
 use Rattle.session.specs.Session.{Step, with_number, with_count, stepped, more, counting, receiving, received, established}
 use Rattle.session.specs.declared.context.AuthenticatedContext.{AuthenticatedContext}
@@ -139,19 +140,13 @@ never_twice m n s h l e =
 
 -- ---- what an event leaves as it was
 
--- what both have, either has
-choose_keeps : {A B : Type 0} (f : A → B) (b : Bool) (x y : A) (z : B) → f x ≡ z → f y ≡ z → f (choose b x y) ≡ z
-unfolding choose
-choose_keeps f true x y z h k = h
-choose_keeps f false x y z h k = k
-
 -- a part of the session that neither a number nor a count changes
 module _ (part : AuthenticatedContext → ℕ) (of_number : (n : ℕ) (s : AuthenticatedContext) → part (with_number n s) ≡ part s) (of-count : (n : ℕ) (s : AuthenticatedContext) → part (with_count n s) ≡ part s) where
   next_keeps : (e : Event) (s : AuthenticatedContext) → part (next s e) ≡ part s
   unfolding next stepped received counting
-  next_keeps step s = choose_keeps (λ (r : Step). part r.session) _ _ _ (part s) refl (of_number _ s)
+  next_keeps step s = choose_keeps (λ (r : Step). part r.session ≡ part s) _ _ _ refl (of_number _ s)
   next_keeps (setting n) s = of_number n s
-  next_keeps (response code d room) s = choose_keeps part _ _ _ (part s) (of_number _ s) (choose_keeps part _ _ _ (part s) (of-count _ s) refl)
+  next_keeps (response code d room) s = choose_keeps (λ (t : AuthenticatedContext). part t ≡ part s) _ _ _ (of_number _ s) (choose_keeps (λ (t : AuthenticatedContext). part t ≡ part s) _ _ _ (of-count _ s) refl)
 
 pub next_mark : (e : Event) (s : AuthenticatedContext) → (next s e).scheme ≡ s.scheme
 unfolding with_number with_count

@@ -23,7 +23,7 @@ use Rattle.answer.specs.Outcome.{Outcome, Meets, Answer, answer_number, answer_l
 use Rattle.answer.specs.Delivery.{handing, delivering}
 use Rattle.answer.specs.Tests.{isnt, either, both}
 use Rattle.answer.proofs.Rows.{choose_keeps, refusal_some, err_meets, choose_most, numbered, first_holds}
-use Rattle.answer.proofs.Unpadded.{Unpadded, refused_unpadded, decide_unpadded}
+use Rattle.answer.proofs.Unpadded.{Unpadded, decide_unpadded}
 use Rattle.frame.proofs.Paddings.{opening_unpadded}
 use Rattle.frame.proofs.Schemes.{opening_whole}
 use Rattle.session.specs.Session.{credentials_size, credentials_of, make_rows, filled, Makes, with_number, with_count, Step, stepped, StepsTo, Steps, more, counting, opened, accept_rows, receiving, received, Receives}
@@ -227,7 +227,7 @@ module _ (s : AuthenticatedContext) (code : ℕ) (d : List ℕ) (room : ℕ) whe
   -- no response has padding to tell
   pub receiving_unpadded : Unpadded (receiving s code d room)
   unfolding receiving
-  receiving_unpadded = choose_keeps Unpadded refused_unpadded _ _ _ (decide_unpadded _ _ opened_unpadded) opened_unpadded
+  receiving_unpadded = choose_keeps Unpadded _ _ _ (decide_unpadded _ _ opened_unpadded) opened_unpadded
 
 -- ---- what is left of the session
 
