@@ -613,11 +613,33 @@ static void wrong_derivations(void)
     printf("  reader  the node is 0x%04X\n", (unsigned)felica_answer_node(answer));
 }
 
+// Which of an editor's nodes have an AES key in the hospital's list, and where.
+static void search(void)
+{
+    static const uint16_t nodes[] = {0x2008, 0x2088};
+    size_t i;
+
+    printf("A key list is searched\n");
+    for (i = 0; i < sizeof nodes / sizeof nodes[0]; i++) {
+        uint64_t answer = accepted("search", felica_search_key(hospital_keys, sizeof hospital_keys, nodes[i], FELICA_ALGORITHM_AES128));
+        unsigned count = felica_answer_count(answer);
+
+        if (felica_answer_scheme(answer) == FELICA_ALGORITHM_AES128) {
+            // the entry is the last of those that were looked at
+            expect(hospital_keys[(count - 1) * FELICA_KEY_ENTRY_SIZE + 3] == 0x52, "the key of node 0x2008");
+            printf("  editor  node 0x%04X: entry %u has its key\n", (unsigned)nodes[i], count);
+        } else {
+            printf("  editor  node 0x%04X: no key among %u entries\n", (unsigned)nodes[i], count);
+        }
+    }
+}
+
 int main(void)
 {
     play(&aes_card);
     play(&des_card);
     wrong_derivations();
+    search();
     printf("All as expected.\n");
     return 0;
 }

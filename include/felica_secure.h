@@ -1,6 +1,6 @@
-// The FeliCa protocol's secure session, for C99 and C++11: key derivation, the challenges of an authentication, AES session keys; sealed
-// commands and responses in both schemes, response frames, Authentication 2, the DES registration package; the session. The archive is
-// libfelica_secure.a, for x86-64 Linux.
+// The FeliCa protocol's secure session, for C99 and C++11: key derivation, the search of a key list, the challenges of an authentication, AES
+// session keys; sealed commands and responses in both schemes, response frames, Authentication 2, the DES registration package; the session.
+// The archive is libfelica_secure.a, for x86-64 Linux.
 //
 // Proved, for every call whose buffers are as the caller's part below says: the call ends, and its answer and its whole output are those
 // of a definition, which docs/STATUS.md names for each function.
@@ -118,7 +118,8 @@ static inline uint8_t felica_answer_number(uint64_t answer)
     return (uint8_t)(answer & 0xFF);
 }
 
-// Bits 8 to 15: the scheme mark, 1 or 2, that an accepted derivation used or that a session has (felica_session_scheme); else 0.
+// Bits 8 to 15: the scheme mark, 1 or 2, that an accepted derivation used or that a session has (felica_session_scheme); with felica_search_key
+// the algorithm, of the same numbers, if the entry is there; else 0.
 static inline uint8_t felica_answer_scheme(uint64_t answer)
 {
     return (uint8_t)((answer >> 8) & 0xFF);
@@ -136,7 +137,7 @@ static inline uint16_t felica_answer_index(uint64_t answer)
     return (uint16_t)((answer >> 16) & 0xFFFF);
 }
 
-// The same bits with felica_session_turned_away: how many responses were turned away.
+// The same bits with felica_session_turned_away: how many responses were turned away; with felica_search_key: how many entries were looked at.
 static inline uint16_t felica_answer_count(uint64_t answer)
 {
     return (uint16_t)((answer >> 16) & 0xFFFF);
@@ -161,7 +162,7 @@ static inline uint8_t felica_answer_padding(uint64_t answer)
     return (uint8_t)((answer >> 48) & 0xFF);
 }
 
-// ---- derivation
+// ---- derivation, and the search of a key list
 
 // Derives the keys of an authentication from key entries and from the areas and services of the authentication. The mark forces DES or AES.
 // With FELICA_SCHEME_BY_KEYS the target's keys choose, AES before DES. The target is the last service that is not key-free, else the last
@@ -181,6 +182,16 @@ uint64_t felica_derive_auth_keys(uint8_t mark,
                                  const uint8_t *services, size_t services_len,
                                  const uint8_t *individual, size_t individual_len,
                                  uint8_t *out, size_t out_len);
+
+// Searches key entries for that of a node and an algorithm, FELICA_ALGORITHM_DES or FELICA_ALGORITHM_AES128. The search ends at the first such
+// entry, and no byte of a key is read. The answer has how many entries were looked at (felica_answer_count), which is the entry's place
+// counted from 1, or all entries where it is not there; and the algorithm if the entry is there, else 0 (felica_answer_scheme). An entry that is
+// not there is no refusal. Where the entry is there, and only there, its key is the 16 bytes from keys[(count - 1) * FELICA_KEY_ENTRY_SIZE + 3] on,
+// of which DES uses the first 8. An entry of another algorithm than 1 and 2 is not the one sought, and a key that stands twice is found at its
+// first place: derivation refuses such lists, this does not.
+// Refusals: 17 (a list that is no whole number of entries; a sought algorithm other than 1 and 2, as FELICA_SCHEME_BY_KEYS), 1 (over 128
+// entries).
+uint64_t felica_search_key(const uint8_t *keys, size_t keys_len, uint16_t node, uint8_t algorithm);
 
 // ---- challenges, both schemes. Keys: what derivation wrote, FELICA_DES_DERIVED_KEYS_SIZE or FELICA_AES_DERIVED_KEYS_SIZE bytes as the
 // scheme mark says. IDm: FELICA_IDM_SIZE bytes. A random and a challenge are one block each: 8 bytes with DES, 16 with AES. Challenge 3C:

@@ -39,6 +39,7 @@
     }
 
 CALL(derive, felica_derive_auth_keys(c->scheme, IN(0), IN(1), IN(2), IN(3), OUT))
+CALL(search, felica_search_key(IN(0), c->number, c->scheme))
 // IDm, keys, Challenge 3C, random or challenge, what is checked
 CALL(make1a, felica_encrypt_challenge1a(c->scheme, IN(1), IN(0), IN(3), OUT))
 CALL(read1a, felica_decrypt_challenge1a(c->scheme, IN(1), IN(0), IN(3), OUT))
@@ -79,6 +80,7 @@ static const struct operation {
     uint64_t (*call)(const struct call *c);
 } operations[] = {
     {"derive", "sbbbb", 1, derive},
+    {"search", "snb", 0, search},
     {"make1a", "sbbbb", 1, make1a},
     {"read1a", "sbbbb", 1, read1a},
     {"make1b", "sbbbb", 1, make1b},

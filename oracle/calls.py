@@ -11,6 +11,7 @@ from rules import SESSION, SESSION_SIZE, Answer, Unlisted, after
 # of the session are handed over; bytes: m mask, f of a fixed length, d data, k key entries, p nodes.
 FIELDS = {
     "derive": "skppf",
+    "search": "snk",
     **{f"{word}{which}": "sffff" for word in ("make", "read") for which in ("1a", "1b", "2a", "2b")},
     "check1b": "sfffff",
     "check2b": "sfffff",
@@ -33,7 +34,7 @@ FIELDS = {
     **{name: "zm" for name in ("number", "count", "scheme", "id", "nodes")},
 }
 # Calls that have no output.
-WITHOUT_OUTPUT = ("check1b", "check2b", "forecast", "step", "set", "index", "number", "count", "scheme")
+WITHOUT_OUTPUT = ("search", "check1b", "check2b", "forecast", "step", "set", "index", "number", "count", "scheme")
 
 
 class Call(NamedTuple):

@@ -29,6 +29,7 @@ ENOUGH = 100000
 BLOCKS = ("make1a", "make1b", "make2a", "make2b", "read1a", "read2a")
 NUMBERS = {
     "derive": "0 1 2 3 4 5 6 7 8 16 17",
+    "search": "0 1 17",
     **{name: "0 16 17" for name in (*BLOCKS, "session_keys", "id", "nodes")},
     **{name: "0 13 17" for name in ("check1b", "check2b")},
     **{name: "0 12 16 17" for name in ("seal", "frame", "auth2seal", "send")},

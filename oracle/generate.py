@@ -227,6 +227,18 @@ class Case:
         if self.one_in(12):
             mark = self.r.one_of((3 - scheme, 3, 255))
         self.put("derive", mark, keys, self.odd(pairs(areas)), self.odd(pairs(services)), self.individual(scheme))
+        self.search(scheme, keys)
+
+    def search(self, scheme, keys):
+        """Twice: a node of the list, or any, with the list's algorithm; at times with the other, or an unknown one."""
+        for _ in range(2):
+            node, algorithm = self.node(True), scheme
+            if keys and self.r.below(5):
+                at = 19 * self.r.below((len(keys) + 18) // 19)
+                node = int.from_bytes(keys[at : at + 2], "little")
+            if self.one_in(8):
+                algorithm = self.r.one_of((3 - scheme, 3 - scheme, 0, 3, 255))
+            self.put("search", algorithm, node, keys)
 
     # ---- challenges
 

@@ -22,9 +22,10 @@ sys.dont_write_bytecode = True
 import frame_cases
 import session_cases
 from cases import Cases, files
-from original import HERE, ROOT, Original
+from original import HERE, ROOT, Original, data
 
 OUT = os.path.join(ROOT, "crates", "replay")
+# The runs of the program that have no file, beside the searches.
 RUNS = [
     # The making, each response, and the session at the end.
     ("Session: 65,537 responses turned away", 1 + 65537 + 1),
@@ -34,6 +35,13 @@ RUNS = [
     # three about session keys. Each scheme by its mark and by mark 0.
     ("Both ends through every call, by mark and scheme", 2 * (3 + 5 + 5 + 8) + 2 * (3 + 5 + 5 + 3 + 8)),
 ]
+
+
+def searches(sets):
+    """Of each derivation's key list one search, and six more for each entry."""
+    lines = [line for cases in sets for own in cases.cases.values() for _, lines in own for line in lines]
+    lists = [data(line.split(" ")[2]) for line in lines if line.startswith("derive ")]
+    return "Searches of the stored key lists", sum(1 + 6 * (len(keys) // 19) for keys in lists)
 
 
 def differing(wanted, folder):
@@ -56,7 +64,7 @@ def main():
     subprocess.run([os.path.join(HERE, "check_standins")], check=True)
     original = Original()
     sets = [module.Groups(original, options.seed).all() for module in (frame_cases, session_cases)]
-    made = dict(files(original, sets, RUNS, options.seed))
+    made = dict(files(original, sets, [searches(sets), *RUNS], options.seed))
     for cases in sets:
         for operation, count in cases.count.items():
             print(f"{count:6}  {operation}")

@@ -18,6 +18,8 @@
     P(TRANSACTION, "transaction", "opening: the high byte of the transaction number is lost") \
     P(NODE, "node", "derivation: 4 with the node's bytes exchanged") \
     P(SCHEME, "scheme", "derivation, chosen by keys: an acceptance without the scheme") \
+    P(SEARCH, "search", "search: the last of equal entries is found") \
+    P(SEARCH_NONE, "search_none", "search: one entry less is told where the one sought is not there") \
     P(HIGH_BIT, "high_bit", "checking 2B: 13 with bit 56") \
     P(PADDING_ONE, "padding_one", "sealing 231 bytes, DES: the padding is not told") \
     P(PADDING_AES, "padding_aes", "response frame, AES: tells what the payload lacks of whole blocks") \
@@ -170,6 +172,30 @@ static uint64_t trimmed(const struct call *c, uint64_t answer, unsigned last, si
     return own - ((uint64_t)drops << 16);
 }
 
+// The last of the entries that are sought.
+static uint64_t last_entry(const struct call *c, uint64_t answer)
+{
+    const uint8_t *keys = c->in[0].at;
+    size_t i;
+
+    for (i = c->in[0].n / FELICA_KEY_ENTRY_SIZE; i-- > 0;) {
+        const uint8_t *entry = keys + i * FELICA_KEY_ENTRY_SIZE;
+
+        if (pair(entry) == c->number && entry[2] == c->scheme) {
+            return (uint64_t)(i + 1) << 16 | (uint64_t)c->scheme << 8;
+        }
+    }
+    return answer;
+}
+
+static uint64_t searched(const struct call *c, uint64_t answer)
+{
+    if (plant == SEARCH_NONE && felica_answer_scheme(answer) == 0 && answer != 0) {
+        return answer - ((uint64_t)1 << 16);
+    }
+    return plant == SEARCH ? last_entry(c, answer) : answer;
+}
+
 static uint64_t first_bytes(const struct call *c, uint64_t answer)
 {
     uint8_t own[FELICA_AES_BLOCK_SIZE];
@@ -234,6 +260,9 @@ uint64_t planted(const struct call *c, const uint8_t *before, uint64_t answer)
     }
     if (plant == TRIM_LAST && is(c, "trimmed") && felica_answer_number(answer) == 0) {
         return trimmed(c, answer, 3, 3);
+    }
+    if (is(c, "search") && felica_answer_number(answer) == 0) {
+        return searched(c, answer);
     }
     if (plant == CHECK && is(c, "check1b")) {
         return first_bytes(c, answer);

@@ -123,7 +123,7 @@ KEYS = {DES: 8, AES: 36}
 def unknown_mark(rules, operation, inputs):
     if operation == "derive":
         return inputs[0] > 2
-    return operation in ("seal", "frame", "open", "forecast", "new", *CHALLENGES) and inputs[0] not in (DES, AES)
+    return operation in ("search", "seal", "frame", "open", "forecast", "new", *CHALLENGES) and inputs[0] not in (DES, AES)
 
 
 def wrong_length(rules, operation, inputs):
@@ -158,6 +158,8 @@ def broken_entries(rules, operation, inputs):
         _, keys, areas, services, _ = inputs
         algorithms = (entry[2] for entry in session_cases.entries_of(keys) if len(entry) == 19)
         return bool(len(keys) % 19 or len(areas) % 2 or len(services) % 2 or any(a not in (1, 2) for a in algorithms))
+    if operation == "search":
+        return len(inputs[2]) % 19 != 0
     return operation == "new" and len(inputs[4]) % 2 == 1
 
 
@@ -175,6 +177,8 @@ def no_session(rules, operation, inputs):
 def too_many(rules, operation, inputs):
     if operation == "derive":
         return len(inputs[1]) > 128 * 19 or len(inputs[2]) > 32 * 2 or len(inputs[3]) > 32 * 2
+    if operation == "search":
+        return len(inputs[2]) > 128 * 19
     return operation == "new" and len(inputs[4]) > 64 * 2
 
 
@@ -245,6 +249,16 @@ def checks_2b(rules, operation, inputs):
     return Answer(0 if rules.asked("make2b", inputs[:5]).data == inputs[5] else 13)
 
 
+def searches(rules, operation, inputs):
+    """The first entry of the node and algorithm: its place from 1. Where there is none, how many entries there are."""
+    algorithm, node, keys = inputs
+    sought, entries = node.to_bytes(2, "little") + bytes([algorithm]), session_cases.entries_of(keys)
+    for place, entry in enumerate(entries):
+        if entry[:3] == sought:
+            return Answer(scheme=algorithm, value=place + 1)
+    return Answer(value=len(entries))
+
+
 def trims(rules, operation, inputs):
     opened = rules.answer("open", (DES, *inputs))
     last = opened.data[-1] if opened.data else 0
@@ -304,6 +318,7 @@ DEPARTURES = [
     Departure("a package over 4,096 bytes", "registration package | takes any", long_package, refuses(12)),
     Departure("reading of 1A, AES", "AES reading of 1A, checking of 2B", reading_1a, reads_1a),
     Departure("checking of 2B", "AES reading of 1A, checking of 2B", has("check2b"), checks_2b),
+    Departure("the search of a key list", "`search_key` | has no such function", has("search"), searches),
     Departure("trimmed opening", "`decrypt_secure_response_trimmed_des` | has no such function", has("trimmed"), trims),
     Departure("forecast", "`forecast` | has no such function", has("forecast"), forecasts),
     Departure("another ID and a low number", "the response step | `apply`, in tests only", late_id, receives),

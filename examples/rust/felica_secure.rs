@@ -42,6 +42,7 @@ mod c {
     extern "C" {
         pub fn felica_derive_auth_keys(mark: u8, keys: In, _: usize, areas: In, _: usize, services: In, _: usize,
                                        individual: In, _: usize, out: Out, _: usize) -> u64;
+        pub fn felica_search_key(keys: In, _: usize, node: u16, algorithm: u8) -> u64;
         pub fn felica_encrypt_challenge1a(scheme: u8, keys: In, _: usize, idm: In, _: usize, random_1: In, _: usize,
                                           out: Out, _: usize) -> u64;
         pub fn felica_decrypt_challenge1a(scheme: u8, keys: In, _: usize, idm: In, _: usize, challenge_1a: In, _: usize,
@@ -206,7 +207,7 @@ fn scheme(answer: u64) -> u8 {
     (answer >> 8) as u8
 }
 
-/// How many bytes were written; the same bits are a node's place and a session's count.
+/// How many bytes were written; the same bits are a node's place, a session's count, and how many key entries were looked at.
 fn length(answer: u64) -> u16 {
     (answer >> 16) as u16
 }
@@ -238,6 +239,13 @@ fn written(answer: u64) -> Result<usize, Refusal> {
 pub struct Derived {
     pub scheme: u8,
     pub len: usize,
+}
+
+/// What a search of a key list says: the key, 16 bytes of the list, if it is there; and how many entries were looked at.
+#[derive(Clone, Copy, PartialEq, Eq)]
+pub struct Found<'a> {
+    pub key: Option<&'a [u8]>,
+    pub looked: usize,
 }
 
 /// What an accepted sealing says: how many bytes were written, and how many of padding are among them, 0 to 7.
@@ -294,6 +302,18 @@ pub fn derive_auth_keys(
             len: usize::from(length(a)),
         },
     )
+}
+
+/// Searches a key list for a node and an algorithm. The search ends at the first entry that has them.
+pub fn search_key(keys: &[u8], node: u16, algorithm: u8) -> Result<Found<'_>, Refusal> {
+    let (list, len) = (keys.as_ptr(), keys.len());
+    // SAFETY: as for `call!`.
+    let answer = accepted(unsafe { c::felica_search_key(list, len, node, algorithm) })?;
+    let looked = usize::from(length(answer));
+    // the entry is the last of those that were looked at
+    let end = looked * KEY_ENTRY_SIZE;
+    let key = (scheme(answer) != 0).then(|| &keys[end - 16..end]);
+    Ok(Found { key, looked })
 }
 
 /// The keys of an authentication at one end: what derivation wrote, and the card's IDm.

@@ -649,10 +649,27 @@ fn wrong_derivations() -> Outcome<()> {
     Ok(())
 }
 
+/// Which of an editor's nodes have an AES key in the hospital's list, and where.
+fn search() -> Outcome<()> {
+    let keys = hospital_keys();
+    println!("A key list is searched");
+    for node in [0x2008, 0x2088] {
+        let Found { key, looked } = search_key(&keys, node, ALGORITHM_AES128)?;
+        if let Some(key) = key {
+            expect(key[0] == 0x52, "the key of node 0x2008")?;
+            println!("  editor  node 0x{node:04X}: entry {looked} has its key");
+        } else {
+            println!("  editor  node 0x{node:04X}: no key among {looked} entries");
+        }
+    }
+    Ok(())
+}
+
 fn run() -> Outcome<()> {
     play(&AES_CARD)?;
     play(&DES_CARD)?;
     wrong_derivations()?;
+    search()?;
     println!("All as expected.");
     Ok(())
 }

@@ -10,7 +10,7 @@ struct call {
     enum operation operation;
     uint8_t scheme;
     uint8_t code;
-    // of INDEX the node
+    // of INDEX and SEARCH the node
     uint16_t number;
     // a transaction ID; of a challenge the IDm
     struct text id;

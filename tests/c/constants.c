@@ -217,6 +217,41 @@ static void algorithms(void)
     }
 }
 
+// A search of so many entries, the last of which is met; of so many bytes.
+static uint64_t search_entries(size_t n)
+{
+    plain_lists(FELICA_ALGORITHM_DES);
+    for (; n > 3; n--) {
+        add_key((unsigned)n + 0x2000, FELICA_ALGORITHM_AES128);
+    }
+    return felica_search_key(l.keys, l.keys_n, 4 + 0x2000, FELICA_ALGORITHM_AES128);
+}
+
+static uint64_t search_bytes(size_t n)
+{
+    plain_lists(FELICA_ALGORITHM_DES);
+    return felica_search_key(l.keys, n, FELICA_NODE_SYSTEM, FELICA_ALGORITHM_DES);
+}
+
+// The count leads to the key, whose bytes all are node + algorithm.
+static void searches(void)
+{
+    uint64_t answer;
+    size_t last;
+
+    limit(FELICA_KEYS_MAX, FELICA_KEYS_MAX + 1, FELICA_TOO_MANY_ENTRIES, search_entries);
+    HOLDS(number(search_bytes(FELICA_KEY_ENTRY_SIZE)) == FELICA_OK);
+    HOLDS(number(search_bytes(FELICA_KEY_ENTRY_SIZE - 1)) == FELICA_BAD_MARK_OR_LENGTH);
+    HOLDS(number(search_bytes(FELICA_KEY_ENTRY_SIZE + 1)) == FELICA_BAD_MARK_OR_LENGTH);
+    answer = search_entries(FELICA_KEYS_MAX);
+    last = (size_t)felica_answer_count(answer) - 1;
+    HOLDS(last + 1 == FELICA_KEYS_MAX && felica_answer_scheme(answer) == FELICA_ALGORITHM_AES128);
+    HOLDS(l.keys[last * FELICA_KEY_ENTRY_SIZE + 3] == 4 + 2);
+    answer = felica_search_key(l.keys, l.keys_n, FELICA_NODE_SYSTEM, FELICA_ALGORITHM_AES128);
+    HOLDS(answer == (uint64_t)FELICA_KEYS_MAX << 16);
+    HOLDS(number(felica_search_key(l.keys, l.keys_n, 0, FELICA_SCHEME_BY_KEYS)) == FELICA_BAD_MARK_OR_LENGTH);
+}
+
 // ---- challenges
 
 static uint64_t idm(size_t n)
@@ -639,6 +674,7 @@ int main(void)
     lists_of_derivation();
     schemes_of_derivation();
     algorithms();
+    searches();
     challenges();
     schemes_of_sealing();
     sizes_of_sealed_data();

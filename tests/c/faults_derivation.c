@@ -1,4 +1,4 @@
-// Derivations and challenges with a fault (faults.h).
+// Derivations, searches and challenges with a fault (faults.h).
 #include "faults.h"
 
 #include <string.h>
@@ -26,6 +26,16 @@
     F(DERIVE_LEAKS, "derivation: 16 with a byte written") \
     F(DERIVE_READS, "derivation: reads the byte behind the services") \
     F(GROUP_LAST, "derivation: the two keys exchanged") \
+    F(SEARCH_LAST, "search: the last of two equal entries is found") \
+    F(SEARCH_ALL, "search: walks to the last entry, and says so") \
+    F(SEARCH_ZERO, "search: places are counted from 0") \
+    F(SEARCH_MARKS, "search: 17 for an unknown algorithm in the list") \
+    F(SEARCH_TWICE, "search: 2 for a key that stands twice") \
+    F(SEARCH_MISSING, "search: 4 for an entry that is not there") \
+    F(SEARCH_ANYWAY, "search: the algorithm of an entry that is not there") \
+    F(SEARCH_ORDER, "search: 1 before 17") \
+    F(SEARCH_SWAPPED, "search: finds an entry with the node's bytes exchanged") \
+    F(SEARCH_BEHIND, "search: 1 for 128 entries whose last has the key sought") \
     F(BETA_1A, "1A: both ends under beta") \
     F(THIRD_SHORT, "1B, AES: both ends without the last byte of Challenge 3C") \
     F(THIRD_NONE, "2A, DES: takes a Challenge 3C of 0 bytes") \
@@ -185,6 +195,73 @@ uint64_t __wrap_felica_derive_auth_keys(DERIVED)
     }
     answer = spoil_number(answer, keys, keys_n, services_n, room);
     return spoil_derivation(answer, PASS_DERIVED);
+}
+
+// ---- searches
+
+// The last entry that is sought, from 1; 0 where there is none.
+static uint64_t last_place(SEARCHED)
+{
+    uint64_t place = 0;
+    size_t i;
+
+    for (i = 0; i < keys_n; i += 19) {
+        if (keys[i] == node % 256 && keys[i + 1] == node / 256 && keys[i + 2] == algorithm) {
+            place = i / 19 + 1;
+        }
+    }
+    return place;
+}
+
+static int unknown_algorithm(bytes keys, size_t n)
+{
+    size_t i;
+
+    for (i = 0; i < n; i += 19) {
+        if (keys[i + 2] != FELICA_ALGORITHM_DES && keys[i + 2] != FELICA_ALGORITHM_AES128) {
+            return 1;
+        }
+    }
+    return 0;
+}
+
+// An acceptance with a fault.
+static uint64_t spoil_search(uint64_t answer, SEARCHED)
+{
+    int found = felica_answer_scheme(answer) != 0;
+
+    switch (fault) {
+    case SEARCH_LAST:
+        return found ? (answer & 0xFFFF) | last_place(PASS_SEARCHED) << 16 : answer;
+    case SEARCH_ALL:
+        return (answer & 0xFFFF) | (uint64_t)(keys_n / 19) << 16;
+    case SEARCH_ZERO:
+        return found ? answer - ((uint64_t)1 << 16) : answer;
+    case SEARCH_MARKS:
+        return unknown_algorithm(keys, keys_n) ? 17 : answer;
+    case SEARCH_TWICE:
+        return twice(keys, keys_n) ? 2 : answer;
+    case SEARCH_MISSING:
+        return found ? answer : (uint64_t)node << 32 | 4;
+    case SEARCH_ANYWAY:
+        return answer | (uint64_t)algorithm << 8;
+    case SEARCH_SWAPPED:
+        return found ? answer : __real_felica_search_key(keys, keys_n, (uint16_t)(node % 256 * 256 + node / 256), algorithm);
+    case SEARCH_BEHIND:
+        return found && keys_n == 128 * 19 && felica_answer_count(answer) == 128 ? 1 : answer;
+    default:
+        return answer;
+    }
+}
+
+uint64_t __wrap_felica_search_key(SEARCHED)
+{
+    uint64_t answer = __real_felica_search_key(PASS_SEARCHED);
+
+    if (felica_answer_number(answer) == 0) {
+        return spoil_search(answer, PASS_SEARCHED);
+    }
+    return fault == SEARCH_ORDER && answer == 17 && keys_n > 128 * 19 ? 1 : answer;
 }
 
 // ---- challenges

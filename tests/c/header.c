@@ -139,6 +139,7 @@ static int calls(void)
            felica_decrypt_authentication2_payload_v2_aes128(in, 1, in, 1, in, 1, out, 1) == bad &&
            felica_generate_registration_package_des(in, 1, in, 1, out, 1) == bad &&
            felica_derive_auth_keys(0, in, 1, in, 0, in, 0, in, 0, out, 1) == bad &&
+           felica_search_key(in, 1, 0, 1) == bad &&
            felica_encrypt_challenge1a(1, in, 1, in, 1, in, 1, out, 1) == bad &&
            felica_decrypt_challenge1a(2, in, 1, in, 1, in, 1, out, 1) == bad &&
            felica_encrypt_challenge1b(1, in, 1, in, 1, in, 1, in, 1, out, 1) == bad &&

@@ -81,6 +81,9 @@ static void derivation_over(const uint8_t *big, uint8_t *out)
     check(felica_derive_auth_keys(2, id, 0, id, 2, id, 2, big, OVER + 16, out, 5000) == 17, "individual key");
     check(felica_derive_auth_keys(2, id, 0, id, 2, id, 2, big, OVER, out, 5000) == 17, "individual key, none if it were cut");
 
+    check(felica_search_key(big, OVER + 19, 0x0101, 1) == 17, "a search, one entry if it were cut");
+    check(felica_search_key(big, OVER + 13, 0x0101, 1) == 1, "a search");
+
     // derived keys, an IDm, Challenge 3C, blocks
     check(felica_encrypt_challenge1a(1, big, OVER + 16, key, 8, key, 8, out, 5000) == 17, "derived keys, 1A");
     check(felica_encrypt_challenge1a(1, credentials, 16, big, OVER + 8, key, 8, out, 5000) == 17, "IDm, 1A");

@@ -78,6 +78,26 @@ size_t as_opened(unsigned scheme, struct text payload, uint8_t *to)
     return payload.n + added;
 }
 
+uint64_t search_answer(struct text keys, unsigned node, unsigned algorithm)
+{
+    uint64_t looked = 0;
+    size_t at;
+
+    if (keys.n % 19 != 0 || (algorithm != FELICA_ALGORITHM_DES && algorithm != FELICA_ALGORITHM_AES128)) {
+        return FELICA_BAD_MARK_OR_LENGTH;
+    }
+    if (keys.n > 128 * 19) {
+        return FELICA_TOO_MANY_ENTRIES;
+    }
+    for (at = 0; at < keys.n; at += 19) {
+        looked++;
+        if (keys.at[at] + 256u * keys.at[at + 1] == node && keys.at[at + 2] == algorithm) {
+            return looked << 16 | (uint64_t)algorithm << 8;
+        }
+    }
+    return looked << 16;
+}
+
 size_t trimmed_size(struct text payload)
 {
     unsigned last = payload.n != 0 ? payload.at[payload.n - 1] : 0;

@@ -1,4 +1,4 @@
-// What the document says of sizes and refusals by length, written out here once more and not taken from the library.
+// What the document says of sizes, of refusals by length and of searches, written out here once more and not taken from the library.
 #ifndef LAYOUT_H
 #define LAYOUT_H
 
@@ -26,6 +26,9 @@ unsigned authentication2_number(size_t n);
 
 // A payload as an opening gives it back, at `to`: padded with DES. Answers how long it is.
 size_t as_opened(unsigned scheme, struct text payload, uint8_t *to);
+
+// What a search of a key list answers: one entry after another, up to the first that is sought.
+uint64_t search_answer(struct text keys, unsigned node, unsigned algorithm);
 
 // How many bytes of an opened DES payload the trimmed opening gives: all but its last v, if these all equal v and v is 1 to 7.
 size_t trimmed_size(struct text payload);

@@ -44,6 +44,18 @@ void add_service(struct lists *l, unsigned node)
     add_node(l->services, &l->services_n, node);
 }
 
+struct call search(const struct lists *l, unsigned node, unsigned algorithm)
+{
+    struct call c;
+
+    memset(&c, 0, sizeof c);
+    c.operation = SEARCH;
+    c.scheme = (uint8_t)algorithm;
+    c.number = (uint16_t)node;
+    c.credentials = text_of(l->keys, l->keys_n);
+    return c;
+}
+
 struct call derivation(const struct lists *l, unsigned mark)
 {
     struct call c;
@@ -335,6 +347,8 @@ int model_derivation(const struct call *c, struct modelled *m)
     }
     if (c->operation == DERIVE) {
         *m = derivation_of(c);
+    } else if (c->operation == SEARCH) {
+        m->answer = search_answer(c->credentials, c->number, c->scheme);
     } else {
         model_challenge(c, m);
     }

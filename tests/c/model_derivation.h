@@ -21,6 +21,8 @@ void add_area(struct lists *l, unsigned node);
 void add_service(struct lists *l, unsigned node);
 // A derivation of these lists, with no individual key.
 struct call derivation(const struct lists *l, unsigned mark);
+// A search of the keys.
+struct call search(const struct lists *l, unsigned node, unsigned algorithm);
 
 // What a derivation answers in an output that is large enough.
 struct modelled derivation_of(const struct call *c);

@@ -15,6 +15,7 @@
 #define OPERATION_LIST(O) \
     O(DERIVE, derivation, felica_derive_auth_keys, (SCHEME, IN(KEYS), IN(AREAS), IN(SERVICES), IN(INDIVIDUAL), OUT), \
       N(1) | N(2) | N(3) | N(4) | N(5) | N(6) | N(7) | N(8) | N(16), MARKED) \
+    O(SEARCH, derivation, felica_search_key, (IN(KEYS), NUMBER, SCHEME), N(1), SEEKS | TELLS) \
     O(MAKE_1A, derivation, felica_encrypt_challenge1a, (SCHEME, IN(KEYS), IN(ID), IN(DATA), OUT), N(16), PLAIN) \
     O(READ_1A, derivation, felica_decrypt_challenge1a, (SCHEME, IN(KEYS), IN(ID), IN(DATA), OUT), N(16), PLAIN) \
     O(MAKE_1B, derivation, felica_encrypt_challenge1b, (SCHEME, IN(KEYS), IN(ID), IN(THIRD), IN(DATA), OUT), N(16), PLAIN) \
@@ -69,7 +70,9 @@ enum trait {
     OF_DES = 32,
     OF_AES = 64,
     // it seals a payload, and an acceptance tells how many bytes of padding it added
-    PADS = 128
+    PADS = 128,
+    // an acceptance has the mark that it was given, or none
+    SEEKS = 256
 };
 
 // What an operation can take: buffers first. KEYS: key entries, derived keys, credentials. DATA: payload, sealed data, random block,

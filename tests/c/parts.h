@@ -12,6 +12,8 @@
     P(blocks) \
     /* derivations: the document's examples of each number, marks, lengths and limits */ \
     P(derivations) \
+    /* searches of key lists: each place, each node, what stands behind the entry that is met */ \
+    P(searches) \
     /* challenges and AES session keys: marks, lengths, rooms, bytes; 1B and 2B with a bit changed */ \
     P(challenges) \
     /* the stored answers of the original Rust: no operation may lack a case */ \

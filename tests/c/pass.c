@@ -85,7 +85,9 @@ static void judge_answer(const struct given *g, uint64_t answer)
         return;
     }
     check(felica_answer_padding(answer) == padding, "a padding");
-    check(has_trait(operation, MARKED) == (felica_answer_scheme(answer) != 0), "a scheme, or none");
+    check(has_trait(operation, SEEKS) ? felica_answer_scheme(answer) == 0 || felica_answer_scheme(answer) == mark
+                                      : has_trait(operation, MARKED) == (felica_answer_scheme(answer) != 0),
+          "a scheme, or none");
     check(has_trait(operation, NUMBERED) || felica_answer_transaction_number(answer) == 0, "a transaction number");
     check(takes(operation, TAKES_OUT) || has_trait(operation, TELLS) || felica_answer_length(answer) == 0, "a length");
 }

@@ -101,6 +101,21 @@ static void trimmed(struct call c, unsigned number, unsigned transaction, struct
     gives(&c, transaction, trimmed_size(payload), payload.at, NULL);
 }
 
+// A derivation's key list is searched for each of its nodes, with either algorithm and with one that there is not.
+static void searched(struct call c)
+{
+    struct text keys = c.credentials;
+    size_t at;
+
+    c.operation = SEARCH;
+    for (at = 0; at + 19 <= keys.n; at += 19) {
+        c.number = (uint16_t)(keys.at[at] | keys.at[at + 1] << 8);
+        for (c.scheme = 1; c.scheme <= 3; c.scheme++) {
+            answers(&c, 0, (unsigned)at, search_answer(keys, c.number, c.scheme), NULL);
+        }
+    }
+}
+
 static void forecast(const struct call *c, unsigned number, size_t n)
 {
     uint64_t answer = felica_forecast(c->scheme, c->data.n);
@@ -259,6 +274,9 @@ static void plain_case(const struct call *c, const struct values *v)
     as_modelled(c, answer_of(v) | (v->number == 0 ? padding_bits(c) : 0), v->bytes);
     if (c->operation == OPEN && c->scheme == FELICA_SCHEME_DES) {
         trimmed(*c, v->number, v->transaction, v->bytes);
+    }
+    if (c->operation == DERIVE) {
+        searched(*c);
     }
     if (c->operation == SEAL) {
         forecast(c, v->number, v->bytes.n);

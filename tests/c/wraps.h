@@ -27,12 +27,14 @@ typedef const uint8_t *bytes;
 #define DERIVED \
     uint8_t mark, bytes keys, size_t keys_n, bytes areas, size_t areas_n, bytes services, size_t services_n, bytes individual, \
         size_t individual_n, OUTPUT
+#define SEARCHED bytes keys, size_t keys_n, uint16_t node, uint8_t algorithm
 #define CHALLENGED uint8_t scheme, bytes keys, size_t keys_n, bytes idm, size_t idm_n
 #define THIRD bytes third, size_t third_n
 #define BLOCK bytes block, size_t n
 #define CHECKED bytes checked, size_t checked_n
 
 #define PASS_DERIVED mark, keys, keys_n, areas, areas_n, services, services_n, individual, individual_n, out, room
+#define PASS_SEARCHED keys, keys_n, node, algorithm
 #define PASS_CHALLENGED scheme, keys, keys_n, idm, idm_n
 #define PASS_THIRD third, third_n
 #define PASS_BLOCK block, n

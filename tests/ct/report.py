@@ -3,7 +3,7 @@
 
     tests/ct/report.py DIR       DIR has `calls` (the list of tests/ct/main.c), and for each N.xml and N.length; writes DIR/report.md.
                                  Status 1, and a line for each, where a jump or an address depends on a secret that
-                                 tests/ct/expected.txt does not have
+                                 tests/ct/expected.txt does not have, or a closed byte is read
 """
 import collections
 import os
@@ -12,12 +12,13 @@ import sys
 import xml.etree.ElementTree as ElementTree
 
 HERE = os.path.dirname(os.path.abspath(__file__))
-KINDS = {"UninitCondition": "jump", "UninitValue": "index"}
+KINDS = {"UninitCondition": "jump", "UninitValue": "index", "InvalidRead": "read"}
 # what is planted, and what has to be seen of it; the last one does not tell of its secret
 PLANTED = {
     "planted_early_exit": {("planted_early_exit", "jump")},
     "planted_lookup": {("planted_lookup", "index")},
     "planted_jump_behind_lookup": {("planted_lookup", "index"), ("planted_jump_behind_lookup", "jump")},
+    "planted_key_read": {("planted_key_read", "read")},
     "planted_all_bytes": set(),
 }
 Call = collections.namedtuple("Call", "function given number length seen")
@@ -76,7 +77,8 @@ def row_for(rows, call, key):
 def faults_of(rows, call):
     for key, seen in sorted(call.seen.items()):
         if row_for(rows, call, key) is None:
-            yield "%s by a secret in %s, %s: more than is expected" % (key[1], key[0], cell(seen))
+            what = "a closed byte read" if key[1] == "read" else "%s by a secret" % key[1]
+            yield "%s in %s, %s: more than is expected" % (what, key[0], cell(seen))
     # where the answer is 13, one jump at most has gone by a secret: the verdict
     jumps = [seen for key, seen in call.seen.items() if key[1] == "jump"]
     if call.number == 13 and sum(seen.times for seen in jumps) > 1:
@@ -95,7 +97,7 @@ def all_faults(rows, calls):
     for call in calls:
         name = "%s, %s" % (call.function, call.given)
         faults = list(faults_of(rows, call))
-        # wherever a MAC, a challenge or an ID differs, and whatever an opened payload ends in, the figures are the same
+        # wherever a MAC, a challenge or an ID differs, whatever an opened payload ends in, and wherever a key stands, the figures are the same
         same = first.setdefault((call.function, call.given.split(",")[0], call.number), call)
         if not alike(same, call):
             faults.append("other figures than with `%s`" % same.given)

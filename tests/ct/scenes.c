@@ -99,21 +99,50 @@ static void entry(uint8_t *at, unsigned node, unsigned algorithm)
     secret(at + 3, 16);
 }
 
-static uint64_t derive(const struct scene *s)
-{
-    static const uint16_t nodes[] = {0xFFFF, 0x0000, 0x1000, 0x1008, 0x1048};
-    static const uint8_t areas[] = {0x00, 0x00, 0x00, 0x10}, services[] = {0x08, 0x10, 0x48, 0x10};
-    uint8_t keys[10 * FELICA_KEY_ENTRY_SIZE];
-    size_t i, n = s->scheme == DES ? 0 : sizeof individual;
+#define NODES 5
+static const uint16_t nodes[NODES] = {0xFFFF, 0x0000, 0x1000, 0x1008, 0x1048};
+static uint8_t keys[2 * NODES * FELICA_KEY_ENTRY_SIZE];
 
-    for (i = 0; i < 5; i++) {
+// Each node with both algorithms.
+static void fill_keys(void)
+{
+    size_t i;
+
+    for (i = 0; i < NODES; i++) {
         entry(keys + 2 * i * FELICA_KEY_ENTRY_SIZE, nodes[i], FELICA_ALGORITHM_DES);
         entry(keys + (2 * i + 1) * FELICA_KEY_ENTRY_SIZE, nodes[i], FELICA_ALGORITHM_AES128);
     }
+}
+
+static uint64_t derive(const struct scene *s)
+{
+    static const uint8_t areas[] = {0x00, 0x00, 0x00, 0x10}, services[] = {0x08, 0x10, 0x48, 0x10};
+    size_t n = s->scheme == DES ? 0 : sizeof individual;
+
+    fill_keys();
     fill_all();
     secret(individual, sizeof individual);
     return MEASURE(felica_derive_auth_keys((uint8_t)s->scheme, keys, sizeof keys, areas, sizeof areas, services, sizeof services,
                                            individual, n, out, sizeof out));
+}
+
+// The key bytes may not even be read.
+static void close_keys(void)
+{
+    size_t i;
+
+    fill_keys();
+    for (i = 0; i < 2 * NODES; i++) {
+        closed(keys + i * FELICA_KEY_ENTRY_SIZE + 3, 16);
+    }
+}
+
+static uint64_t search(const struct scene *s)
+{
+    uint16_t node = s->twist == FOUND_LAST ? nodes[NODES - 1] : s->twist == NOT_THERE ? 0x2000 : nodes[0];
+
+    close_keys();
+    return MEASURE(felica_search_key(keys, sizeof keys, node, (uint8_t)s->scheme));
 }
 
 // ---- challenges
@@ -417,6 +446,13 @@ static uint64_t lookup(const struct scene *s)
     return MEASURE(planted_lookup(random_block[0]) * 0);
 }
 
+static uint64_t key_read(const struct scene *s)
+{
+    (void)s;
+    close_keys();
+    return MEASURE(planted_key_read(keys, sizeof keys) * 0);
+}
+
 static uint64_t jump_behind_lookup(const struct scene *s)
 {
     (void)s;
@@ -437,6 +473,9 @@ static uint64_t jump_behind_lookup(const struct scene *s)
 
 const struct scene scenes[] = {
     BOTH("felica_derive_auth_keys", derive, RIGHT, "", 0, ALL_OUT, ALL_OUT),
+    BOTH("felica_search_key", search, RIGHT, ", the first node", 0, NO_OUT, NO_OUT),
+    BOTH("felica_search_key", search, FOUND_LAST, ", the last node", 0, NO_OUT, NO_OUT),
+    BOTH("felica_search_key", search, NOT_THERE, ", not there", 0, NO_OUT, NO_OUT),
     BOTH("felica_encrypt_challenge1a", make_1a, RIGHT, "", 0, ALL_OUT, ALL_OUT),
     BOTH("felica_decrypt_challenge1a", read_1a, RIGHT, "", 0, ALL_OUT, ALL_OUT),
     BOTH("felica_encrypt_challenge1b", make_1b, RIGHT, "", 0, ALL_OUT, ALL_OUT),
@@ -492,10 +531,15 @@ const struct scene scenes[] = {
     {"planted_all_bytes", "planted, last byte differs", all_bytes, DES, LAST_BYTE, 13, NO_OUT},
     {"planted_lookup", "planted", lookup, DES, RIGHT, 0, NO_OUT},
     {"planted_jump_behind_lookup", "planted", jump_behind_lookup, DES, RIGHT, 0, NO_OUT},
+    {"planted_key_read", "planted", key_read, DES, RIGHT, 0, NO_OUT},
 };
 const size_t scenes_count = sizeof scenes / sizeof scenes[0];
 
 int length_fits(const struct scene *s, size_t n)
 {
+    if (s->run == search) {
+        // each node has an entry with DES, then one with AES
+        return n == (s->twist == NOT_THERE ? 2 * NODES : (s->twist == FOUND_LAST ? 2 * NODES - 2 : 0) + s->scheme);
+    }
     return s->run != trimmed || n == (s->twist == ENDS_03_03_03 ? PAYLOAD - 3 : PAYLOAD);
 }

@@ -6,8 +6,8 @@
 #include <stdint.h>
 
 // What is wrong with what the call gets. CODE: data that was sealed under another code, so that the DES MAC's start differs in one byte.
-// ENDS_..: nothing is, and the payload ends in these bytes.
-enum twist { RIGHT, FIRST_BYTE, LAST_BYTE, CODE, ID_FIRST_BYTE, ID_LAST_BYTE, NUMBER, ENDS_5A, ENDS_5A_03, ENDS_03_03_03 };
+// ENDS_..: nothing is, and the payload ends in these bytes. FOUND_LAST, NOT_THERE: nothing is, and the key sought is the last, or none.
+enum twist { RIGHT, FIRST_BYTE, LAST_BYTE, CODE, ID_FIRST_BYTE, ID_LAST_BYTE, NUMBER, ENDS_5A, ENDS_5A_03, ENDS_03_03_03, FOUND_LAST, NOT_THERE };
 
 struct scene {
     // the function, and what it is called with
@@ -26,7 +26,8 @@ struct scene {
 extern const struct scene scenes[];
 extern const size_t scenes_count;
 
-// Whether an accepted call may give n bytes: a trimmed opening has to give those that are no padding.
+// Whether an accepted call may give n bytes: a trimmed opening has to give those that are no padding. Of a search n is the count, which has to be
+// right.
 int length_fits(const struct scene *s, size_t n);
 
 // What the call wrote, if it was accepted.

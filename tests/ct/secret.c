@@ -15,6 +15,11 @@ void known(void *at, size_t n)
     (void)VALGRIND_MAKE_MEM_DEFINED(at, n);
 }
 
+void closed(void *at, size_t n)
+{
+    (void)VALGRIND_MAKE_MEM_NOACCESS(at, n);
+}
+
 void tables_secret(void)
 {
     (void)VALGRIND_MAKE_MEM_UNDEFINED(__start_felica_tables, __stop_felica_tables - __start_felica_tables);

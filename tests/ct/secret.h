@@ -8,6 +8,8 @@
 
 void secret(void *at, size_t n);
 void known(void *at, size_t n);
+// It reports each read of these.
+void closed(void *at, size_t n);
 
 // The tables of the archive. A value that is read from a table counts as initialised, whatever the index was made of; so while a call
 // is measured the tables count as secret, and what is read from them does too.

@@ -56,7 +56,7 @@ static size_t keys_size(enum operation op, unsigned scheme)
     return family_of(op) == family_derivation ? derived_size(scheme) : credentials_size(scheme_of(op, scheme));
 }
 
-// ---- lists of a derivation
+// ---- lists of a derivation or a search
 
 static const uint16_t nodes_known[8] = {0xFFFF, 0x0000, 0x1000, 0x1008, 0x1009, 0x1048, 0x1017, 0x2000};
 
@@ -90,7 +90,11 @@ static void lists(struct feed *f, const struct recipe *r, struct shot *s)
 {
     unsigned i, mask = word(r->own), many = r->length[0] % 140;
 
-    s->scheme = r->scheme < 0xE0 ? r->scheme % 3 : r->scheme;
+    if (s->op == DERIVE) {
+        s->scheme = r->scheme < 0xE0 ? r->scheme % 3 : r->scheme;
+    } else if (r->flip % 4 != 0) {
+        s->number = r->source % 4 == 2 ? 0x4000 + r->flip : nodes_known[r->flip / 4 % 8];
+    }
     s->in[IN_KEYS].n = 0;
     for (i = 0; r->source % 4 != 1 && i < 16; i++) {
         if ((mask >> i & 1) != 0) {
@@ -258,7 +262,7 @@ void decode(const uint8_t *bytes, size_t n, struct shot *s)
     s->number = word(r.number);
     s->place = r.place % 4;
     s->room = room(&r, s->op);
-    if (s->op == DERIVE) {
+    if (s->op == DERIVE || s->op == SEARCH) {
         lists(&f, &r, s);
     } else {
         inputs(&f, &r, s);

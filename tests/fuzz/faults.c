@@ -116,6 +116,15 @@ uint64_t __wrap_felica_derive_auth_keys(DERIVED)
     return has("refusal-with-a-length") && felica_answer_number(answer) == 5 ? answer | (uint64_t)1 << 16 : answer;
 }
 
+uint64_t __wrap_felica_search_key(SEARCHED)
+{
+    uint64_t answer = __real_felica_search_key(PASS_SEARCHED);
+
+    return has("counts-one-more") && keys_n == 5 * 19 && answer == ((uint64_t)3 << 16 | FELICA_ALGORITHM_AES128 << 8)
+               ? answer + ((uint64_t)1 << 16)
+               : answer;
+}
+
 uint64_t __wrap_felica_verify_challenge2b(CHALLENGED, BLOCK, CHECKED)
 {
     volatile uint8_t read = 0;

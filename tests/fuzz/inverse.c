@@ -131,6 +131,9 @@ static void sealed_inverse(const struct shot *s, const struct result *r)
 
 void inverse(const struct shot *s, const struct result *r)
 {
+    if (s->op == SEARCH) {
+        check(r->answer == search_answer(text_of(B(KEYS)), s->number, s->scheme), "a search answers another than its rule");
+    }
     if (felica_answer_number(r->answer) != 0) {
         return;
     }

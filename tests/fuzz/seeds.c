@@ -1,5 +1,5 @@
 // Writes the inputs that the fuzzer starts from: each operation in both schemes, with frames that the library sealed, as recipes and as
-// bytes; and derivations that reach each number.
+// bytes; and derivations and searches that reach each number.
 //
 //     seeds DIR
 #include "recipe.h"
@@ -203,6 +203,29 @@ static void twice(void)
     fclose(f);
 }
 
+// Searches of the known nodes in lists that have the AES keys of the first and the last of them and another key; and of lists that have too many
+// entries.
+static void searches(void)
+{
+    struct recipe r;
+    unsigned scheme, bit, node;
+
+    for (scheme = 1; scheme <= 2; scheme++) {
+        for (bit = 0; bit < 16; bit++) {
+            for (node = 0; node < 8; node++) {
+                r = recipe_of(SEARCH, scheme, RAW, 0);
+                r.own[bit / 8] = (uint8_t)(1u << bit % 8);
+                r.own[1] |= 0x81;
+                r.flip = (uint8_t)(node * 4 + 1);
+                plain(r);
+            }
+        }
+        r = recipe_of(SEARCH, scheme, RAW, 130);
+        r.source = 2;
+        plain(r);
+    }
+}
+
 // A key-free service alone.
 static void key_free(void)
 {
@@ -232,6 +255,7 @@ int main(int argc, char **argv)
     trimmings();
     derivations();
     twice();
+    searches();
     key_free();
     printf("%u\n", files);
     return 0;

@@ -45,7 +45,7 @@ void fire(const struct shot *s, size_t room, unsigned place, uint8_t ink, struct
 
 // ---- inverse.c
 
-// What was sealed opens, what was opened seals to the same bytes, what was made is read and accepted.
+// What was sealed opens, what was opened seals to the same bytes, what was made is read and accepted. A search answers by its rule.
 void inverse(const struct shot *s, const struct result *r);
 
 // ---- sessions.c

@@ -23,6 +23,11 @@ unfolding either
 either_false true b h = (h, cc)
 either_false false b h = (refl, h)
 
+pub either_right : (a : Bool) → either a true ≡ true
+unfolding either
+either_right true = refl
+either_right false = refl
+
 pub isnt_false : (a : Bool) → isnt a ≡ false → a ≡ true
 unfolding isnt
 isnt_false true h = refl
@@ -114,12 +119,7 @@ module _ (i j m n : ℕ) where
   first_wrong h = rw (wrong_length i m h)
 
   second_wrong : j ≢ n → either (isnt (eqb i m)) (isnt (eqb j n)) ≡ true
-  unfolding either
-  second_wrong h = rw (wrong_length j n h) (by (isnt (eqb i m)))
-    where
-      by : (b : Bool) → either b true ≡ true
-      by true = refl
-      by false = refl
+  second_wrong h = rw (wrong_length j n h) (either_right (isnt (eqb i m)))
 
   pub both_right : i ≡ m → j ≡ n → either (isnt (eqb i m)) (isnt (eqb j n)) ≡ false
   unfolding either

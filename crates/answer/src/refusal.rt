@@ -33,7 +33,7 @@ pub enum Refusal {
     // the number is not above the session's
     NumberNotAbove,
     OutputTooSmall,
-    // an unknown mark, a wrong fixed length, an unknown algorithm in a key entry
+    // an unknown mark, a wrong fixed length, an unknown algorithm in a key entry or of a search
     BadMarkOrLength,
 }
 

@@ -4,7 +4,7 @@
 #![tactic(auto)]
 
 mod challenge;
-mod derivation;
 mod frames;
+mod keys;
 mod pack;
 mod sessions;

@@ -5,7 +5,7 @@ ghost use Rattle.felica_secure.specs.Packed.{packed, packed_sealed};
 
 use answer::Answer;
 
-// Number, scheme mark, length, and a transaction number or a node, as C gets them.
+// Number, scheme mark or algorithm, length or count, and a transaction number or a node, as C gets them.
 pub(crate) fn pack_all(number: u8, scheme: u8, length: u16, value: u16) -> u64
     ensures { result ≡ packed number scheme length value }
 {

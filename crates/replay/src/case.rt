@@ -1,12 +1,18 @@
 // One line of a data file: a case, read and put to its operation.
+use crate::note::Checks;
 use crate::{challenge, derive, sealed, steps};
 use std::alloc::Global;
 use textfile::{FieldError, Fields, Verdict};
 
-// What comes of a line.
-pub(crate) fn run(alloc: Global, operation: &str, line: &str) -> Result<Verdict, FieldError> {
+// What comes of a line. The searches of a derivation's key list are checks of a run of their own.
+pub(crate) fn run(
+    alloc: Global,
+    operation: &str,
+    line: &str,
+    searches: &mut Checks,
+) -> Result<Verdict, FieldError> {
     let departing = line.strip_suffix(" departs");
-    let agrees = agrees(alloc, operation, departing.unwrap_or(line))?;
+    let agrees = agrees(alloc, operation, departing.unwrap_or(line), searches)?;
     if agrees && departing.is_some() {
         Ok(Verdict::Departs)
     } else {
@@ -17,7 +23,12 @@ pub(crate) fn run(alloc: Global, operation: &str, line: &str) -> Result<Verdict,
 // Whether all calls of a case agree. Its first field names its file's operation, and with that name a case has so many fields. One match says name,
 // number and call of each: passed to the loop over a file's lines instead, they would stand at sixteen calls of that loop, which is no shorter, and
 // the check takes a fifth longer.
-fn agrees(alloc: Global, operation: &str, case: &str) -> Result<bool, FieldError> {
+fn agrees(
+    alloc: Global,
+    operation: &str,
+    case: &str,
+    searches: &mut Checks,
+) -> Result<bool, FieldError> {
     let fields = Fields::new(alloc, case)?;
     if fields.get(0)? != operation {
         return Err(FieldError::Malformed);
@@ -30,7 +41,7 @@ fn agrees(alloc: Global, operation: &str, case: &str) -> Result<bool, FieldError
         ("auth2open_des", 5) => sealed::auth2_open_des(&fields),
         ("auth2open_aes", 7) => sealed::auth2_open_aes(&fields),
         ("package", 5) => sealed::package(&fields),
-        ("derive", 10) => derive::keys(&fields),
+        ("derive", 10) => derive::keys(&fields, searches),
         ("keyfree", 3) => derive::key_free(&fields),
         ("make", 9) => challenge::make(&fields),
         ("read", 9) => challenge::read(&fields),

@@ -1,8 +1,50 @@
-// Key derivation and service codes: a case's inputs, and the call.
+// Key derivation and service codes: a case's inputs, and the call. The stored key lists are searched too.
 use crate::call::{Given, Wanted};
+use crate::note::Checks;
+use answer::{Refusal, Scheme};
+use session::Found;
 use textfile::{FieldError, Fields};
 
-pub(crate) fn keys(fields: &Fields) -> Result<bool, FieldError> {
+// Whether a search of a key list answers by the rule: the place of the first entry of that node and algorithm from 1, or how many there are.
+fn search_agrees(keys: &[u8], node: u16, algorithm: u8) -> bool {
+    let (entries, rest) = keys.as_chunks::<19>();
+    let wanted = if !rest.is_empty() || Scheme::try_from(algorithm).is_err() {
+        Err(Refusal::BadMarkOrLength)
+    } else if 128 < entries.len() {
+        Err(Refusal::TooManyEntries)
+    } else {
+        let place = entries.iter().position(|entry| {
+            u16::from_le_bytes([entry[0], entry[1]]) == node && entry[2] == algorithm
+        });
+        Ok(match place {
+            Some(place) => Found {
+                found: true,
+                looked: place + 1,
+            },
+            None => Found {
+                found: false,
+                looked: entries.len(),
+            },
+        })
+    };
+    session::search_key(keys, node, algorithm) == wanted
+}
+
+// Searches of a list, each held to its rule: one of a node that hardly any list has; then for each entry of its node and of another, with either
+// algorithm and with one that there is not.
+fn search(checks: &mut Checks, keys: &[u8]) {
+    let (entries, _) = keys.as_chunks::<19>();
+    checks.holds(search_agrees(keys, 0xABCD, 1));
+    for entry in entries {
+        let node = u16::from_le_bytes([entry[0], entry[1]]);
+        for algorithm in 1..4 {
+            checks.holds(search_agrees(keys, node, algorithm));
+            checks.holds(search_agrees(keys, node ^ 0x4000, algorithm));
+        }
+    }
+}
+
+pub(crate) fn keys(fields: &Fields, searches: &mut Checks) -> Result<bool, FieldError> {
     let wanted = Wanted::new(
         fields.number(6)?,
         fields.number(7)?,
@@ -14,6 +56,7 @@ pub(crate) fn keys(fields: &Fields) -> Result<bool, FieldError> {
     let areas = fields.bytes(3)?;
     let services = fields.bytes(4)?;
     let individual = fields.bytes(5)?;
+    search(searches, &keys);
     Ok(wanted.is_given(|out| {
         let derived = session::derive_auth_keys(mark, &keys, &areas, &services, &individual, out);
         Some(match derived {

@@ -52,9 +52,13 @@ static FILES: [(&str, &str); 24] = [
 fn main(rt: HostRuntime) -> io::Result<()> {
     textfile::print_head(&rt)?;
     let mut all = Tally::default();
+    let mut searches = Checks::new(rt.alloc());
     for (operation, file) in &FILES {
-        all += textfile::run_file(&rt, file, |line| case::run(rt.alloc(), operation, line))?;
+        all += textfile::run_file(&rt, file, |line| {
+            case::run(rt.alloc(), operation, line, &mut searches)
+        })?;
     }
+    all += searches.print(&rt, "the searches", "# Searches of the stored key lists\n")?;
     all += own_runs(&rt)?;
     textfile::print_sum(&rt, all)?;
     textfile::print_departed(&rt, all, "of them depart from the original")

@@ -26,7 +26,7 @@ use Rattle.answer.specs.declared.refusal.Refusal.{Refusal}
 use Rattle.answer.specs.declared.refusal.Refusal.TheVariants.{OutputTooSmall, BadMarkOrLength, NoNodes, KeyMissing}
 use Rattle.answer.specs.declared.scheme.Scheme.{Scheme}
 use Rattle.answer.specs.declared.scheme.Scheme.TheVariants.{Des, Aes128}
-use Rattle.answer.proofs.Rows.{refusal_some, either_false, isnt_false, numbered, first_passes}
+use Rattle.answer.proofs.Rows.{refusal_some, either_false, either_right, isnt_false, numbered, first_passes}
 use Rattle.session.specs.Entries.{Entry, entry_of, entries, nodes, has, unknown_algorithm, twice}
 use Rattle.session.specs.declared.keys.DerivedAuthKeys.{DerivedAuthKeys}
 use Rattle.session.specs.Derivation.{Derived, Derives, turned_down, derived, by_rows, lacks, needing, key_of, keys_of, group_des, user_des, des_rows, derived_des, chain_start, group_aes, individual_key, derived_aes, target, derived_by, chosen, derived_for, lengths_wrong, derive_rows, derived_before16, with_room, derivation}
@@ -107,11 +107,6 @@ own_length : (o : Option (List ℕ)) (k : List ℕ) → IfSome o (λ x. length x
 unfolding either
 own_length None k h e = rw (← e)
 own_length (Some x) k h e = rw (← e, h)
-
-either_right : (a : Bool) → either a true ≡ true
-unfolding either
-either_right true = refl
-either_right false = refl
 
 -- where `?` passed a refusal on
 pub question_guards : {A : Type 0} (rows : List Row) (r : Result A Refusal) (e : Refusal) → IsErrAnd r (λ x. x ≡ e) → (first_of rows ≡ refusal_number e) × (refusal_node e ≡ 0) → Guards rows r

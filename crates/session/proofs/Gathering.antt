@@ -1,19 +1,19 @@
 -- The keys of nodes: the first node that lacks its key, and keys gathered one behind the other. Assumes nothing.
 use mathlib.Core.Path.{◌≡◌, refl, sym, ap, ap₂, ◌∙◌}
 use mathlib.Core.Bool.{Bool, true, false}
-use mathlib.Core.List.{List, [], ◌∷◌, ◌++◌, append_assoc, append-nil}
+use mathlib.Core.List.{List, [], ◌∷◌, ◌++◌, map, append_assoc, append-nil}
 use Prim.Native.Nat.{ℕ, zero, suc, ◌+◌, ◌-◌, ◌*◌, ◌/◌, ◌≤◌, ◌<◌}
 use native.Mathlib.Nat.{suc-mul}
 use native.Mathlib.Omega.{arith}
-use borrow.Author.Tests.{ne_eqb, ltb-true}
+use borrow.Author.Tests.{ne_eqb}
 use borrow.Rule.Slice.PartMut.{put_mid}
 use lib.Dec.{lit≤, eqb}
-use lib.ListN.{length, take, drop, length-append, take-append-drop}
+use lib.ListN.{length, take, drop, get_or, length-append, take-append-drop}
 use lib.Seq.{drop-drop, drop-cons, take-take, take_at, length-take-le}
 use Rattle.std.proofs.Common.{Option, Some, None}
 use Rattle.std.proofs.lemmas.Iterator.{YieldsList}
 use Rattle.std.proofs.lemmas.Iterator.Consumers.{YieldsList-so_far, YieldsList-turn, YieldsList-end}
-use Rattle.std.proofs.lemmas.List.{map-id}
+use Rattle.std.proofs.lemmas.List.{map-id, length-map}
 use Rattle.std.specs.Iterator.{Yields}
 use Rattle.answer.specs.declared.refusal.Refusal.{Refusal}
 use Rattle.cipher.specs.Bytes.{Bytes}
@@ -21,11 +21,12 @@ use Rattle.cipher.proofs.ByteLists.{Bytes-nil, Bytes-append, Bytes-take, Bytes-d
 use Rattle.cipher.proofs.Copies.{length_part, stored}
 use Rattle.answer.specs.Outcome.{choose}
 use Rattle.answer.proofs.Rows.{choose_most}
-use Rattle.session.specs.Entries.{Entry, entry_of, first_entries, entries, place, has, key_at}
+use Rattle.session.specs.Entries.{Entry, entry_of, first_entries, entries, place, has, looked_at, key_at}
 use Rattle.session.specs.Derivation.{other, key_length, Derived, turned_down, needing, lacks, key_of, keys_of}
 use Rattle.answer.specs.declared.refusal.Refusal.TheVariants.{OtherAlgorithm, KeyMissing}
 use Rattle.session.specs.inner.DerivationSteps.{refusing}
 use Rattle.session.proofs.KeySearch.{length_entries}
+use Rattle.session.proofs.Places.{FoundAt, found_at}
 
 -- ---- the key of a node
 
@@ -56,8 +57,7 @@ module _ (keys : List ℕ) (a n : ℕ) where
     key_long = ap length key_is ∙ length_part keys (p * 19 + 3) (key_length a) key_within
 
   placed : has (entries keys) n a ≡ true → place (entries keys) n a < length keys / 19
-  unfolding has
-  placed t = let l = length_entries keys in ltb-true (place (entries keys) n a) (length keys / 19) (rw l at t)
+  placed t = let f = (found_at n a (entries keys)).0 t in omega (arith, f.within, length_entries keys)
 
   pub has_long : has (entries keys) n a ≡ true → length (key_of (entries keys) a n) ≡ key_length a
   has_long t = key_long (place (entries keys) n a) refl (placed t)
@@ -66,14 +66,37 @@ pub Bytes-key : (keys : List ℕ) (a n : ℕ) → has (entries keys) n a ≡ tru
 Bytes-key keys a n t b =
     rw (key_is keys a n (place (entries keys) n a) refl (placed keys a n t)) (Bytes-take (key_length a) (drop (place (entries keys) n a * 19 + 3) keys) (Bytes-drop (place (entries keys) n a * 19 + 3) keys b))
 
--- k is the length of the keys of the algorithm a; key is what the search found
-module _ (es : List Entry) (a n k : ℕ) (ek : k ≡ key_length a) (key : List ℕ) (found : (has es n a ≡ true) × (key ≡ key_at es (place es n a)) × (length key ≡ 16)) where
-  needed_within : k ≤ length key
-  needed_within = omega (arith, length_most a, ek, found.2)
+-- the key at a place, of entries as they lie in a list
+key_there : (ls : List (List ℕ)) (p : ℕ) → p < length ls → take 16 (drop 3 (get_or ls p [])) ≡ key_at (map entry_of ls) p
+unfolding key_at entry_of
+key_there [] p h = absurd (omega arith)
+key_there (l ∷ ls) zero h = refl
+key_there (l ∷ ls) (suc p) h = key_there ls p (omega arith)
 
-  pub needed_found : (has es n a ≡ true) × (take k key ≡ key_of es a n) × (length (take k key) ≡ key_length a)
-  unfolding key_of
-  needed_found = (found.0, rw (ek, found.1), length-take-le k key needed_within ∙ ek)
+-- a search that found its entry, and looked at so many: the entry is the last of these
+module _ (ls : List (List ℕ)) (a n looked : ℕ) (there : true ≡ has (map entry_of ls) n a) (count : looked ≡ looked_at (map entry_of ls) n a) where
+  met : FoundAt n a (map entry_of ls)
+  met = (found_at n a (map entry_of ls)).0 (sym there)
+
+  pub met_some : 1 ≤ looked
+  met_some = omega (arith, count, met.looked)
+
+  pub met_within : looked - 1 < length ls
+  met_within = omega (arith, count, met.looked, met.within, length-map ls entry_of)
+
+  -- k is the length of the keys of the algorithm a; key is that of the entry
+  module _ (k : ℕ) (ek : k ≡ key_length a) (key : List ℕ) (is : key ≡ take 16 (drop 3 (get_or ls (looked - 1) []))) (long : length key ≡ 16) where
+    key_met : key ≡ key_at (map entry_of ls) (place (map entry_of ls) n a)
+    key_met =
+        let p : looked - 1 ≡ place (map entry_of ls) n a = omega (arith, count, met.looked) in
+        is ∙ key_there ls (looked - 1) met_within ∙ ap (key_at (map entry_of ls)) p
+
+    needed_within : k ≤ length key
+    needed_within = omega (arith, length_most a, ek, long)
+
+    pub needed_found : (has (map entry_of ls) n a ≡ true) × (take k key ≡ key_of (map entry_of ls) a n) × (length (take k key) ≡ key_length a)
+    unfolding key_of
+    needed_found = (sym there, rw (ek, key_met), length-take-le k key needed_within ∙ ek)
 
 -- b is the other algorithm, and t what was asked of it
 module _ (es : List Entry) (n a b : ℕ) (eb : b ≡ other a) (none : has es n a ≡ false) (t : Bool) (et : t ≡ has es n b) where

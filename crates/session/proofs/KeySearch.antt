@@ -4,17 +4,16 @@ use mathlib.Core.Bool.{Bool, true, false, ◌||◌}
 use mathlib.Core.List.{List, [], ◌∷◌, map}
 use Prim.Native.Nat.{ℕ, zero, suc, ◌+◌, ◌*◌, ◌/◌, ◌≤◌, ◌<◌}
 use native.Mathlib.Omega.{arith}
-use borrow.Author.Tests.{lt-ltb, le-ltb, ltb-true, ltb-false}
-use lib.Dec.{lit≤, eqb, ltb}
-use lib.ListN.{length, take, drop, get_or}
+use lib.Dec.{lit≤, eqb}
+use lib.ListN.{length, take, drop, get_or, drop_of_length-le}
 use lib.Seq.{take-take}
-use Rattle.std.proofs.Common.{Option, Some, None, MatchOption, cond}
-use Rattle.std.specs.List.{find, list_any}
+use Rattle.std.proofs.lemmas.List.{at_drop_more, length-map}
+use Rattle.std.specs.List.{list_any}
 use Rattle.std.specs.Simd.{first_chunks}
 use Rattle.answer.specs.Number.{number_of}
-use Rattle.answer.specs.Outcome.{choose}
 use Rattle.answer.specs.Tests.{isnt, either}
-use Rattle.session.specs.Entries.{Entry, entry_of, first_entries, entries, is_for, place, has, key_at, unknown_algorithm, twice}
+use Rattle.session.specs.Entries.{entry_of, first_entries, entries, is_for, place, has, looked_at, unknown_algorithm, twice}
+use Rattle.session.proofs.Places.{has_next, Passed, passed_met, passed_next, passed_all}
 
 pub length_first : (n : ℕ) (l : List ℕ) → length (first_entries n l) ≡ n
 unfolding first_entries
@@ -43,6 +42,10 @@ chunks_entries l = go (length l / 19) l
     go zero m = refl
     go (suc n) m = ap₂ ◌∷◌ (entry_front m) (go n (drop 19 m))
 
+-- how many there are
+pub length_chunks : (ls : List (List ℕ)) (l : List ℕ) → map entry_of ls ≡ entries l → length ls ≡ length l / 19
+length_chunks ls l e = sym (length-map ls entry_of) ∙ ap length e ∙ length_entries l
+
 -- ---- the search for a key
 
 either_or : (a b : Bool) → either a b ≡ (a || b)
@@ -50,47 +53,29 @@ unfolding either
 either_or true b = refl
 either_or false b = refl
 
-ltb_suc : (m n : ℕ) → ltb (suc m) (suc n) ≡ ltb m n
-ltb_suc m n = go (ltb m n) refl
-  where
-    go : (t : Bool) → ltb m n ≡ t → ltb (suc m) (suc n) ≡ t
-    go true e = let h : m < n = ltb-true m n e in lt-ltb (suc m) (suc n) (omega arith)
-    go false e = let h : n ≤ m = ltb-false m n e in le-ltb (suc m) (suc n) (omega arith)
-
 module _ (node algorithm : ℕ) where
   abbrev test : List ℕ → Bool
   test l = is_for (entry_of l) node algorithm
 
   has_any : (ls : List (List ℕ)) → has (map entry_of ls) node algorithm ≡ list_any test ls
-  unfolding has place choose
+  unfolding has place
   has_any [] = refl
-  has_any (l ∷ ls) = go (test l) (ltb_suc (place (map entry_of ls) node algorithm) (length (map entry_of ls)) ∙ has_any ls)
-    where
-      go : (t : Bool) → ltb (suc (place (map entry_of ls) node algorithm)) (suc (length (map entry_of ls))) ≡ list_any test ls
-          → ltb (choose t 0 (suc (place (map entry_of ls) node algorithm))) (suc (length (map entry_of ls))) ≡ (t || list_any test ls)
-      go true h = lt-ltb 0 (suc (length (map entry_of ls))) (omega arith)
-      go false h = h
+  has_any (l ∷ ls) = has_next node algorithm (entry_of l) (map entry_of ls) ∙ either_or (test l) (has (map entry_of ls) node algorithm) ∙ ap (λ (t : Bool). test l || t) (has_any ls)
 
-  -- what a search found: the key at the place, if there is one
-  abbrev Finds : Bool → Option (List ℕ) → List Entry → ℕ → Type 0
-  Finds some r es p = MatchOption r (some ≡ false) (λ l. (some ≡ true) × ((entry_of l).key ≡ key_at es p))
+  -- a search of the entries ls that has passed n of them, the first i, where t says whether the next is the one
+  module _ (ls : List (List ℕ)) (n i : ℕ) (p : Passed node algorithm (map entry_of ls) n (map entry_of (drop i ls))) where
+    module _ (h : i < length ls) (t : Bool) (is : t ≡ test (get_or ls i [])) where
+      next_up : Passed node algorithm (map entry_of ls) n (entry_of (get_or ls i []) ∷ map entry_of (drop (i + 1) ls))
+      next_up = rw (at_drop_more (map entry_of) ls i [] h) at p
 
-  finds : (ls : List (List ℕ)) → Finds (list_any test ls) (find test ls) (map entry_of ls) (place (map entry_of ls) node algorithm)
-  unfolding place choose key_at
-  finds [] = refl
-  finds (l ∷ ls) = go (test l) (find test ls) (finds ls)
-    where
-      go : (t : Bool) (r : Option (List ℕ)) → Finds (list_any test ls) r (map entry_of ls) (place (map entry_of ls) node algorithm)
-          → Finds (t || list_any test ls) (cond t (Some l) r) (entry_of l ∷ map entry_of ls) (choose t 0 (suc (place (map entry_of ls) node algorithm)))
-      go true r h = (refl, refl)
-      go false None h = h
-      go false (Some x) h = h
+      pub search_ends : t ≡ true → (true ≡ has (map entry_of ls) node algorithm) × (n + 1 ≡ looked_at (map entry_of ls) node algorithm)
+      search_ends y = passed_met node algorithm _ _ _ _ next_up (sym is ∙ y)
 
-  -- the first entry that is found
-  pub found_key : (ls : List (List ℕ)) (r : Option (List ℕ)) → r ≡ find test ls
-      → MatchOption r (has (map entry_of ls) node algorithm ≡ false)
-      (λ l. (has (map entry_of ls) node algorithm ≡ true) × ((entry_of l).key ≡ key_at (map entry_of ls) (place (map entry_of ls) node algorithm)))
-  found_key ls r e = rw (e, has_any ls) (finds ls)
+      pub search_goes_on : t ≡ false → Passed node algorithm (map entry_of ls) (n + 1) (map entry_of (drop (i + 1) ls))
+      search_goes_on y = passed_next node algorithm _ _ _ _ next_up (sym is ∙ y)
+
+    pub search_fails : length ls ≤ i → (false ≡ has (map entry_of ls) node algorithm) × (n ≡ looked_at (map entry_of ls) node algorithm)
+    search_fails h = passed_all node algorithm _ _ (rw (drop_of_length-le ls h) at p)
 
 -- ---- an unknown algorithm
 

@@ -8,6 +8,8 @@
 -- KeySearch: the search for a key, an unknown algorithm, a key that stands twice
 -- NodeLists: the nodes of a list, and those that bear a key
 -- Nodes: the search for a node in a session's list
+-- Places: the search for a node and an algorithm: the entry it meets, how many it looks at, and that those behind it play no part
+-- Searches: the search of a key list as a call: its rows, its answers, and what they tell of the bytes
 -- SeenKeys: what a derivation sees of the key entries, and its number past the rows 17, 1 and 2
 -- SessionSteps: the session's steps: which row decides, and what is left of the session
 pub mod AcceptedDerivation
@@ -20,5 +22,7 @@ pub mod Histories
 pub mod KeySearch
 pub mod NodeLists
 pub mod Nodes
+pub mod Places
+pub mod Searches
 pub mod SeenKeys
 pub mod SessionSteps

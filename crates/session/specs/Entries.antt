@@ -41,6 +41,10 @@ place (e ∷ es) node algorithm = choose (is_for e node algorithm) 0 (suc (place
 unfoldable pub has : List Entry → ℕ → ℕ → Bool
 has es node algorithm = ltb (place es node algorithm) (length es)
 
+-- how many entries a search that stops looks at: the entry's place from 1, or all of them where it is not there
+unfoldable pub looked_at : List Entry → ℕ → ℕ → ℕ
+looked_at es node algorithm = choose (has es node algorithm) (suc (place es node algorithm)) (length es)
+
 -- the key at a place
 unfoldable pub key_at : List Entry → ℕ → List ℕ
 key_at [] i = []

@@ -3,6 +3,7 @@ pub mod Derivation
 pub mod Entries
 pub mod History
 pub mod Record
+pub mod Search
 pub mod ServiceCode
 pub mod Session
 pub mod inner

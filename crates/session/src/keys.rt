@@ -1,11 +1,12 @@
-// Key derivation (keys.rs, in its order).
+// Key derivation (keys.rs, in its order), and the search of a key list.
 ghost use Rattle.std.specs.Prelude.{◌≡◌, true, false, List, [], ◌++◌, ℕ, ◌/◌, ◌<◌, ◌≤◌, ◌≢◌, length, MatchOption, MatchResult, IfOk, IfSome, map};
 ghost use Rattle.std.specs.Iterator.{UpTo};
 ghost use Rattle.answer.specs.Scheme.{mark_of};
 ghost use Rattle.session.specs.Derivation.{des_rows, other, key_length, key_of, lacks, derived, derived_des, derived_aes, target, derive_rows, derivation, with_room, Derives};
 ghost use Rattle.session.specs.ServiceCode.{bearing};
 ghost use Rattle.session.specs.inner.DerivationSteps.{refusing, Guards, forced_mark, bytes_of, Chooses, Lists, Gathers, Chains};
-ghost use Rattle.session.specs.Entries.{entry_of, entries, nodes as node_list, is_for, place, has, key_at, unknown_algorithm, twice};
+ghost use Rattle.session.specs.Entries.{entry_of, entries, nodes as node_list, is_for, has, looked_at, unknown_algorithm, twice};
+ghost use Rattle.session.specs.Search.{searching, Searches};
 
 use crate::types::{Nodes, is_key_free_service};
 use answer::{Refusal, Scheme};
@@ -20,6 +21,14 @@ const NODE_KEY_INIT: [u8; 16] =
 pub struct DerivedAuthKeys {
     pub length: u16,
     pub scheme: Scheme,
+}
+
+// What a search for a key found: whether there is an entry of that node and algorithm, and how many entries the search looked at. If there is one, it
+// is the last of these, and its key is the 16 bytes of the list from (looked - 1) * 19 + 3 on.
+#[derive(Clone, Copy, Debug, PartialEq, Eq)]
+pub struct Found {
+    pub found: bool,
+    pub looked: usize,
 }
 
 // Whether a key entry is that of a node and an algorithm.
@@ -43,22 +52,32 @@ impl<'a> ResolvedNodeKeys<'a> {
         ResolvedNodeKeys { entries }
     }
 
-    // The key of the first entry of a node and a scheme's algorithm.
-    fn find(&self, node: u16, scheme: Scheme) -> Option<&'a [u8]>
-        ensures { let all = map entry_of self.now.entries.now in MatchOption result (has all node (mark_of scheme) ≡ false) (λ key. (has all node (mark_of scheme) ≡ true) × (key.now ≡ key_at all (place all node (mark_of scheme))) × (length key.now ≡ 16)) }
+    // The search for a node and a scheme's algorithm. It ends at the first such entry. Nodes and marks are public, and no byte of a key is read, so
+    // where it ends tells nothing secret.
+    fn find_key(&self, node: u16, scheme: Scheme) -> Found
+        ensures { let all = map entry_of self.now.entries.now in (result.found ≡ has all node (mark_of scheme)) × (result.looked ≡ looked_at all node (mark_of scheme)) }
     {
         let algorithm = scheme.mark();
-        let entry = self
-            .entries
-            .iter()
-            .find(|entry| is_for(entry, node, algorithm))?;
-        Some(&entry[3..19])
+        let mut looked = 0;
+        for entry in self.entries {
+            looked += 1;
+            if is_for(entry, node, algorithm) {
+                return Found {
+                    found: true,
+                    looked,
+                };
+            }
+        }
+        Found {
+            found: false,
+            looked,
+        }
     }
 
     fn has(&self, node: u16, scheme: Scheme) -> bool
         ensures { result ≡ has (map entry_of self.now.entries.now) node (mark_of scheme) }
     {
-        self.find(node, scheme).is_some()
+        self.find_key(node, scheme).found
     }
 
     fn any_algorithm_unknown(&self) -> bool
@@ -90,15 +109,15 @@ impl<'a> ResolvedNodeKeys<'a> {
     fn require(&self, node: u16, scheme: Scheme) -> Result<&'a [u8], Refusal>
         ensures { let all = map entry_of self.now.entries.now in MatchResult result (λ key. (has all node (mark_of scheme) ≡ true) × (key.now ≡ key_of all (mark_of scheme) node) × (length key.now ≡ key_length (mark_of scheme))) (λ e. (has all node (mark_of scheme) ≡ false) × (lacks all node (mark_of scheme) ≡ refusing e)) }
     {
-        match self.find(node, scheme) {
-            Some(key) => Ok(&key[..key_length(scheme)]),
-            None => {
-                if self.has(node, other_scheme(scheme)) {
-                    Err(Refusal::OtherAlgorithm)
-                } else {
-                    Err(Refusal::KeyMissing(node))
-                }
-            }
+        let search = self.find_key(node, scheme);
+        if search.found {
+            let key = &self.entries[search.looked - 1][3..19];
+            return Ok(&key[..key_length(scheme)]);
+        }
+        if self.has(node, other_scheme(scheme)) {
+            Err(Refusal::OtherAlgorithm)
+        } else {
+            Err(Refusal::KeyMissing(node))
         }
     }
 
@@ -184,6 +203,21 @@ fn individual_key(individual: &[u8]) -> Result<Option<[u8; 16]>, Refusal>
         0 => Ok(None),
         _ => Ok(Some(answer::exact::<16>(individual)?)),
     }
+}
+
+// Searches a key list for the entry of a node and an algorithm. That there is none is an acceptance.
+pub fn search_key(keys: &[u8], node: u16, algorithm: u8) -> Result<Found, Refusal>
+    ensures { Searches (searching keys.now node algorithm) algorithm result }
+{
+    let scheme = Scheme::try_from(algorithm)?;
+    if keys.len() % 19 != 0 {
+        return Err(Refusal::BadMarkOrLength);
+    }
+    let keys = ResolvedNodeKeys::from_keys(keys);
+    if 128 < keys.entries.len() {
+        return Err(Refusal::TooManyEntries);
+    }
+    Ok(keys.find_key(node, scheme))
 }
 
 // Derives the keys of an authentication. With mark 0 the target's keys choose the scheme, as in the Rust's derive_auth_keys; 1 and 2 force DES

@@ -1,5 +1,5 @@
-// The FeliCa secure session: service codes, key derivation, challenges of the authentication, and the session after it. No public function asks
-// anything of its caller; a refusal has a number and writes nothing.
+// The FeliCa secure session: service codes, key derivation, the search of a key list, challenges of the authentication, and the session after it. No
+// public function asks anything of its caller; a refusal has a number and writes nothing.
 #![tactic(auto)]
 
 mod challenge;
@@ -16,6 +16,6 @@ pub use challenge::{
 };
 pub use context::AuthenticatedContext;
 pub use des::AuthenticationContext;
-pub use keys::{DerivedAuthKeys, derive_auth_keys};
+pub use keys::{DerivedAuthKeys, Found, derive_auth_keys, search_key};
 pub use types::is_key_free_service;
 pub use v2_aes::{AuthenticationContextV2Aes128, SecureSessionKeys};
