@@ -1,18 +1,18 @@
 -- The entries of a key list: the search for a key, for an unknown algorithm and for a key that stands twice. Assumes nothing.
 use mathlib.Core.Path.{◌≡◌, refl, sym, ap, ap₂, ◌∙◌}
 use mathlib.Core.Bool.{Bool, true, false, ◌||◌}
-use mathlib.Core.List.{List, [], ◌∷◌, map}
-use Prim.Native.Nat.{ℕ, zero, suc, ◌+◌, ◌*◌, ◌/◌, ◌≤◌, ◌<◌}
+use mathlib.Core.List.{List, [], ◌∷◌, ◌++◌, map}
+use Prim.Native.Nat.{ℕ, zero, suc, ◌+◌, ◌*◌, ◌/◌, ◌%◌, ◌≤◌, ◌<◌}
 use native.Mathlib.Omega.{arith}
 use lib.Dec.{lit≤, eqb}
-use lib.ListN.{length, take, drop, get_or, drop_of_length-le}
-use lib.Seq.{take-take}
-use Rattle.std.proofs.lemmas.List.{at_drop_more, length-map}
+use lib.ListN.{length, take, drop, get_or, length-append, drop_of_length-le}
+use lib.Seq.{take-take, length-take-le}
+use Rattle.std.proofs.lemmas.List.{at_drop_more, length-map, length-drop, drop-take, take-append-le, drop-append-le, nil_from_length}
 use Rattle.std.specs.List.{list_any}
 use Rattle.std.specs.Simd.{first_chunks}
 use Rattle.answer.specs.Number.{number_of}
 use Rattle.answer.specs.Tests.{isnt, either}
-use Rattle.session.specs.Entries.{entry_of, first_entries, entries, is_for, place, has, looked_at, unknown_algorithm, twice}
+use Rattle.session.specs.Entries.{Entry, entry_of, first_entries, entries, is_for, place, has, looked_at, unknown_algorithm, twice}
 use Rattle.session.proofs.Places.{has_next, Passed, passed_met, passed_next, passed_all}
 
 pub length_first : (n : ℕ) (l : List ℕ) → length (first_entries n l) ≡ n
@@ -41,6 +41,34 @@ chunks_entries l = go (length l / 19) l
     go : (n : ℕ) (m : List ℕ) → map entry_of (first_chunks 19 n m) ≡ first_entries n m
     go zero m = refl
     go (suc n) m = ap₂ ◌∷◌ (entry_front m) (go n (drop 19 m))
+
+-- n entries, and k more behind them
+first_joined : (n k : ℕ) (l more : List ℕ) → length l ≡ n * 19 → first_entries (n + k) (l ++ more) ≡ first_entries n l ++ first_entries k more
+unfolding first_entries
+first_joined zero k l more h = let z : 0 + k ≡ k = omega arith in rw (nil_from_length l h, z) refl
+first_joined (suc n) k l more h =
+    let c : suc n + k ≡ suc (n + k) = omega arith in
+    rw (c, drop-append-le 19 l more (omega (arith, h)))
+    (ap₂ ◌∷◌ (sym (entry_front (l ++ more)) ∙ ap entry_of (take-append-le 19 l more (omega (arith, h))) ∙ entry_front l)
+    (first_joined n k (drop 19 l) more (omega (arith, h, length-drop 19 l))))
+
+-- the first n of k entries
+first_front : (n k : ℕ) (l : List ℕ) → n ≤ k → first_entries n (take (n * 19) l) ≡ take n (first_entries k l)
+unfolding first_entries
+first_front zero k l h = refl
+first_front (suc n) zero l h = absurd (omega (arith, h))
+first_front (suc n) (suc k) l h =
+    let m : suc n * 19 ≡ 19 + n * 19 = omega arith in
+    rw (m, drop-take 19 (n * 19) l)
+    (ap₂ ◌∷◌ (sym (entry_front (take (19 + n * 19) l)) ∙ ap entry_of (take-take 19 (19 + n * 19) l (omega arith)) ∙ entry_front l) (first_front n k (drop 19 l) (omega (arith, h))))
+
+-- the first n entries of a list, and others behind them, in bytes
+pub entries_front : (n : ℕ) (l more : List ℕ) → n ≤ length l / 19 → length more % 19 ≡ 0 → entries (take (n * 19) l ++ more) ≡ take n (entries l) ++ entries more
+unfolding entries
+entries_front n l more h whole =
+    let f : length (take (n * 19) l) ≡ n * 19 = length-take-le (n * 19) l (omega (arith, h)) in
+    let k : length (take (n * 19) l ++ more) / 19 ≡ n + length more / 19 = omega (arith, length-append (take (n * 19) l) more, f) in
+    rw k (first_joined n (length more / 19) (take (n * 19) l) more f ∙ ap (λ (es : List Entry). es ++ first_entries (length more / 19) more) (first_front n (length l / 19) l h))
 
 -- how many there are
 pub length_chunks : (ls : List (List ℕ)) (l : List ℕ) → map entry_of ls ≡ entries l → length ls ≡ length l / 19

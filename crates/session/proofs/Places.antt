@@ -150,7 +150,7 @@ module _ (node algorithm : ℕ) where
 
   -- ---- the entries behind it
 
-  -- fs is what a search looks at, the entry at the place p last, and whatever more
+  -- a search of fs meets the entry at the place p, and finds the key that es has there
   abbrev Front : List Entry → List Entry → ℕ → Type 0
   Front es fs p = (has fs node algorithm ≡ true) × (place fs node algorithm ≡ p) × (key_at fs p ≡ key_at es p)
 
