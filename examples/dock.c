@@ -1,6 +1,6 @@
 // A dock (the reader) and a staff card in one program, in both schemes: derivation, authentication, a session with its commands and
-// responses, refusals, the end of the session. Each line that it prints says what one end did. It checks all that it expects, and ends with
-// status 1 where something is otherwise; in a dock a refusal ends the exchange with the card, not the program.
+// responses, refusals, the end of the session; then a session with a ceiling. Each line that it prints says what one end did. It checks all
+// that it expects, and ends with status 1 where something is otherwise; in a dock a refusal ends the exchange with the card, not the program.
 //
 // C99, and C++11. Keys, nodes and IDm are made up. Random 1, random 2 and Challenge 3C are fixed here, so that each run prints the same: in
 // earnest they are drawn anew for each authentication, from a random generator that is fit for keys.
@@ -23,7 +23,7 @@ static const char *const meanings[] = {
     "an individual key with DES",
     "DES without an area",
     "DES without a service that bears a key",
-    "the transaction number is 0xFFFF",
+    "the transaction number is at or above the ceiling",
     "not whole blocks of 8 bytes, or an empty package",
     "too short",
     "too long",
@@ -522,7 +522,7 @@ static void small_output(struct reader *r, struct card *c, const struct profile 
     reader_accepts(r, p->written, &response);
 }
 
-// No number is used twice: after 0xFFFF the reader has to authenticate anew.
+// No number is used twice: after 0xFFFF, which is the ceiling of this session, the reader has to authenticate anew.
 static void last_number(struct reader *r)
 {
     uint8_t before[FELICA_SESSION_SIZE];
@@ -634,12 +634,45 @@ static void search(void)
     }
 }
 
+// A card that opens the dock for two commands: the session's ceiling is 3. A response that is taken raises the number too, the second one past the
+// ceiling, and then the number does not step.
+static void limited_session(void)
+{
+    const uint8_t code = des_card.written, status[STATUS_SIZE] = {0, 0};
+    const uint8_t *id = transaction_id(fixed_random_1), *key = fixed_random_2;
+    uint8_t session[FELICA_SESSION_SIZE], response[FELICA_FRAME_MAX], payload[FELICA_SEALED_MAX];
+    unsigned commands = 0, number;
+    uint64_t answer;
+
+    printf("A session with a ceiling\n");
+    accepted("making the session", felica_session_new_with_ceiling(FELICA_SCHEME_DES, 0, 3, id, FELICA_ID_SIZE, key, FELICA_DES_KEY_SIZE,
+                                                                   des_card.services, sizeof des_card.services, session, sizeof session));
+    answer = accepted("ceiling", felica_session_ceiling(session, sizeof session));
+    printf("  reader  session made, number 0, ceiling %u\n", (unsigned)felica_answer_ceiling(answer));
+    while (felica_answer_number(answer = felica_session_increment_transaction_number(session, sizeof session)) == FELICA_OK) {
+        number = felica_answer_transaction_number(answer);
+        printf("  reader  a command with number %u\n", number);
+        commands++;
+        // the card answers with the next number
+        answer = accepted("response", felica_build_secure_response_frame(FELICA_SCHEME_DES, code, (uint16_t)(number + 1), id, FELICA_ID_SIZE,
+                                                                         key, FELICA_DES_KEY_SIZE, status, sizeof status, response,
+                                                                         sizeof response));
+        answer = accepted("taking a response", felica_session_apply_response(session, sizeof session, code, response + 2,
+                                                                             felica_answer_length(answer) - 2u, payload, sizeof payload));
+        printf("  reader  a response with number %u\n", (unsigned)felica_answer_transaction_number(answer));
+    }
+    refused("reader", "number step", answer, FELICA_NUMBER_EXHAUSTED);
+    expect(commands == 2, "two commands under a ceiling of 3");
+    wipe(session, sizeof session);
+}
+
 int main(void)
 {
     play(&aes_card);
     play(&des_card);
     wrong_derivations();
     search();
+    limited_session();
     printf("All as expected.\n");
     return 0;
 }

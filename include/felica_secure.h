@@ -80,8 +80,10 @@ extern "C" {
 #define FELICA_PACKAGE_MAX 4096
 
 // A session is bytes that the caller keeps: how many, and the value of the first.
-#define FELICA_SESSION_SIZE 178
-#define FELICA_SESSION_VERSION 1
+#define FELICA_SESSION_SIZE 180
+#define FELICA_SESSION_VERSION 2
+// The ceiling of a session that is made without one.
+#define FELICA_CEILING_NONE 0xFFFF
 // The most nodes of a session.
 #define FELICA_SESSION_NODES_MAX 64
 // What felica_session_node_index gives for a node that the session does not have.
@@ -151,6 +153,12 @@ static inline uint16_t felica_answer_transaction_number(uint64_t answer)
 
 // The same bits with FELICA_KEY_MISSING, which derivation alone gives: the node that has no key.
 static inline uint16_t felica_answer_node(uint64_t answer)
+{
+    return (uint16_t)((answer >> 32) & 0xFFFF);
+}
+
+// The same bits with felica_session_ceiling: the session's ceiling.
+static inline uint16_t felica_answer_ceiling(uint64_t answer)
 {
     return (uint16_t)((answer >> 32) & 0xFFFF);
 }
@@ -344,11 +352,11 @@ uint64_t felica_decrypt_authentication2_payload_v2_aes128(const uint8_t *id, siz
                                                           const uint8_t *data, size_t data_len,
                                                           uint8_t *out, size_t out_len);
 
-// ---- the session after an authentication: transaction number, transaction ID, scheme, credentials, nodes, and how many responses were
-// turned away. It is FELICA_SESSION_SIZE bytes. The caller keeps them between calls, and passes the bytes that the last call left. They hold
+// ---- the session after an authentication: transaction number, ceiling, transaction ID, scheme, credentials, nodes, and how many responses
+// were turned away. It is FELICA_SESSION_SIZE bytes. The caller keeps them between calls, and passes the bytes that the last call left. They hold
 // secrets. The library knows nothing of a session but these bytes: an older copy would reuse transaction numbers, so keep exactly one copy.
 // The first byte is the version of the layout.
-// Each call here but the first answers 17 where the bytes are no session: another size than FELICA_SESSION_SIZE, another first byte than
+// Each call here but the first two answers 17 where the bytes are no session: another size than FELICA_SESSION_SIZE, another first byte than
 // FELICA_SESSION_VERSION, an unknown scheme mark, or a node count over FELICA_SESSION_NODES_MAX. A call that is turned down leaves the bytes
 // as they were, but for the count.
 
@@ -361,11 +369,22 @@ uint64_t felica_session_new(uint8_t scheme, uint16_t number,
                             const uint8_t *nodes, size_t nodes_len,
                             uint8_t *session, size_t session_len);
 
+// Makes a session with a ceiling: as felica_session_new does, whose sessions have FELICA_CEILING_NONE. Once the number is at or above the ceiling,
+// the step refuses; no other call goes by the ceiling, and none changes it. Any ceiling is taken, and the number may be at or above it. It
+// limits this session, not the card. A response that is taken raises the number too: from number 0, with a card that answers each command with
+// the next number, ceiling c lets (c + 1) / 2 commands through, in whole numbers; with no responses, c.
+// Refusals: as felica_session_new.
+uint64_t felica_session_new_with_ceiling(uint8_t scheme, uint16_t number, uint16_t ceiling,
+                                         const uint8_t *id, size_t id_len,
+                                         const uint8_t *credentials, size_t credentials_len,
+                                         const uint8_t *nodes, size_t nodes_len,
+                                         uint8_t *session, size_t session_len);
+
 // Steps the number. Call it before each command is sealed. The answer has the new number.
-// Refusals: 17, 9.
+// Refusals: 17, 9 (the number is at or above the ceiling).
 uint64_t felica_session_increment_transaction_number(uint8_t *session, size_t session_len);
 
-// Sets the number, whatever it was; it may go back.
+// Sets the number, whatever it was; it may go back, and it may go to the ceiling and past it.
 // Refusal: 17.
 uint64_t felica_session_set_transaction_number(uint8_t *session, size_t session_len, uint16_t number);
 
@@ -377,7 +396,7 @@ uint64_t felica_session_encrypt_command(const uint8_t *session, size_t session_l
                                         uint8_t *out, size_t out_len);
 
 // Opens a response (what follows the length byte and the code) as felica_decrypt_response does. Its number has to be above the session's,
-// which is then set to it. Refusals from 10 to 15 are counted, up to 65,535; 16 and 17 are not.
+// which is then set to it, past the ceiling too. Refusals from 10 to 15 are counted, up to 65,535; 16 and 17 are not.
 // Refusals, DES: 17, 10, 11, 12, 13, 14, 15, 16. Refusals, AES: 17, 11, 12, 13, 15, 16.
 uint64_t felica_session_apply_response(uint8_t *session, size_t session_len, uint8_t code,
                                        const uint8_t *data, size_t data_len,
@@ -390,6 +409,10 @@ uint64_t felica_session_node_index(const uint8_t *session, size_t session_len, u
 // The session's number (felica_answer_transaction_number).
 // Refusal: 17.
 uint64_t felica_session_transaction_number(const uint8_t *session, size_t session_len);
+
+// The session's ceiling (felica_answer_ceiling).
+// Refusal: 17.
+uint64_t felica_session_ceiling(const uint8_t *session, size_t session_len);
 
 // How many responses felica_session_apply_response turned away with 10 to 15 since the making (felica_answer_count), at most 65,535.
 // Refusal: 17.

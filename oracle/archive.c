@@ -60,6 +60,7 @@ CALL(auth2open_des, felica_decrypt_authentication2_payload_des(IN(0), IN(1), OUT
 CALL(auth2open_aes, felica_decrypt_authentication2_payload_v2_aes128(IN(0), IN(1), IN(2), OUT))
 CALL(package, felica_generate_registration_package_des(IN(0), IN(1), OUT))
 CALL(new_session, felica_session_new(c->scheme, c->number, IN(0), IN(1), IN(2), OUT))
+CALL(new_with_ceiling, felica_session_new_with_ceiling(c->scheme, c->number, c->ceiling, IN(0), IN(1), IN(2), OUT))
 CALL(step, felica_session_increment_transaction_number(SESSION))
 CALL(set, felica_session_set_transaction_number(SESSION, c->number))
 CALL(send_command, felica_session_encrypt_command(SESSION, c->code, IN(0), OUT))
@@ -67,12 +68,13 @@ CALL(receive, felica_session_apply_response(SESSION, c->code, IN(0), OUT))
 CALL(node_index, felica_session_node_index(SESSION, c->number))
 CALL(number, felica_session_transaction_number(SESSION))
 CALL(count, felica_session_turned_away(SESSION))
+CALL(ceiling, felica_session_ceiling(SESSION))
 CALL(scheme, felica_session_scheme(SESSION))
 CALL(id, felica_session_transaction_id(SESSION, OUT))
 CALL(nodes, felica_session_nodes(SESSION, OUT))
 
-// Fields: s scheme or mark, c code, n number or node, b bytes, z size, t how often the call is made. S are two: how many bytes of the
-// session are handed over, and what is xored to their front for this call alone.
+// Fields: s scheme or mark, c code, n number or node, l ceiling, b bytes, z size, t how often the call is made. S are two: how many bytes of
+// the session are handed over, and what is xored to their front for this call alone.
 static const struct operation {
     const char *name;
     const char *fields;
@@ -100,6 +102,7 @@ static const struct operation {
     {"auth2open_aes", "bbb", 1, auth2open_aes},
     {"package", "bb", 1, package},
     {"new", "snbbb", 1, new_session},
+    {"new_ceiling", "snbbbl", 1, new_with_ceiling},
     {"step", "S", 0, step},
     {"set", "Sn", 0, set},
     {"send", "Scb", 1, send_command},
@@ -107,6 +110,7 @@ static const struct operation {
     {"index", "Sn", 0, node_index},
     {"number", "S", 0, number},
     {"count", "S", 0, count},
+    {"ceiling", "S", 0, ceiling},
     {"scheme", "S", 0, scheme},
     {"id", "S", 1, id},
     {"nodes", "S", 1, nodes},
@@ -180,6 +184,9 @@ static void take(char field, int *taken)
         break;
     case 'n':
         call.number = (uint16_t)number_up_to(65535);
+        break;
+    case 'l':
+        call.ceiling = (uint16_t)number_up_to(65535);
         break;
     case 'z':
         call.length = number_up_to(SIZE_MAX);
@@ -342,7 +349,7 @@ static void print_bytes(const uint8_t *at, size_t n)
 // Makes the call once. Answers whether nothing changed that may not.
 static int run(const struct operation *o, int last)
 {
-    int about_session = o->fields[0] == 'S', made = strcmp(o->name, "new") == 0;
+    int about_session = o->fields[0] == 'S', made = o->call == new_session || o->call == new_with_ceiling;
     uint64_t answer;
     const char *what;
     size_t written;

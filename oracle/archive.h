@@ -19,6 +19,8 @@ struct call {
     uint8_t code;
     // a transaction number, or a node
     uint16_t number;
+    // of a session that is made
+    uint16_t ceiling;
     // of a forecast
     size_t length;
     // in the order of the line

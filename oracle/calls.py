@@ -5,7 +5,7 @@ A case is some calls in turn. Only those about a session depend on one another: 
 from typing import NamedTuple
 
 from original import Program, data, text
-from rules import SESSION, SESSION_SIZE, Answer, Unlisted, after
+from rules import MAKINGS, SESSION, SESSION_SIZE, Answer, Unlisted, after
 
 # What the fields of a call are: s scheme or mark, n another number, t how often the call is made, z how many bytes
 # of the session are handed over; bytes: m mask, f of a fixed length, d data, k key entries, p nodes.
@@ -26,15 +26,16 @@ FIELDS = {
     "auth2open_aes": "ffd",
     "package": "fd",
     "new": "snffp",
+    "new_ceiling": "snffpn",
     "step": "zm",
     "set": "zmn",
     "send": "zmnd",
     "receive": "zmntd",
     "index": "zmn",
-    **{name: "zm" for name in ("number", "count", "scheme", "id", "nodes")},
+    **{name: "zm" for name in ("number", "count", "ceiling", "scheme", "id", "nodes")},
 }
 # Calls that have no output.
-WITHOUT_OUTPUT = ("search", "check1b", "check2b", "forecast", "step", "set", "index", "number", "count", "scheme")
+WITHOUT_OUTPUT = ("search", "check1b", "check2b", "forecast", "step", "set", "index", "number", "count", "ceiling", "scheme")
 
 
 class Call(NamedTuple):
@@ -82,7 +83,7 @@ class History:
         about = inputs
         if operation in SESSION:
             about = (self.state, *inputs)
-        elif operation == "new":
+        elif operation in MAKINGS:
             about = (*inputs, room)
         found = self.rules.padded(operation, about, self.rules.answer(operation, about))
         room = room(found) if callable(room) else room
@@ -102,7 +103,7 @@ class History:
             self.state = self.state and self.state._replace(count=min(self.state.count + counted, 65535))
         self.calls[-1] = Call(operation, inputs, room, place)
         own = self.state.layout() if self.state else bytes(SESSION_SIZE)
-        self.expected.append(Expected(found, own if operation in (*SESSION, "new") else b""))
+        self.expected.append(Expected(found, own if operation in (*SESSION, *MAKINGS) else b""))
         return found
 
 

@@ -48,7 +48,7 @@ def left_out(departure):
     at = rules.DEPARTURES.index(departure)
     del rules.DEPARTURES[at]
     run = Run(argparse.Namespace(seed=1, cases=CASES, plant=None))
-    noticed = any(run.case(index) for index in range(CASES))
+    noticed = any(run.case(*which) for which in run.each())
     rules.DEPARTURES.insert(at, departure)
     say(noticed, f"left out of the departures: {departure.name}")
 

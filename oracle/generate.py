@@ -6,7 +6,7 @@ challenges are the original's, as they are or damaged.
 from calls import WITHOUT_OUTPUT, History
 from cases import AES, DES, Maker, xor_at
 from original import answer
-from rules import KEYS, SESSION_SIZE
+from rules import CEILING_NONE, KEYS, SESSION_SIZE
 from session_cases import SYSTEM, pairs
 
 # Lengths around the limits of payloads, sealed data and frames, and around blocks.
@@ -24,10 +24,10 @@ HISTORY_MOST = 14
 
 
 class Case:
-    """One case. `history` is what was put."""
+    """One case. `history` is what was put. `bounded` says whether its sessions may have a ceiling."""
 
-    def __init__(self, rules, random):
-        self.r, self.history = random, History(rules)
+    def __init__(self, rules, random, bounded=False):
+        self.r, self.history, self.bounded = random, History(rules), bounded
         self.original, self.make = rules.original, Maker(rules.original)
 
     # ---- parts
@@ -380,23 +380,34 @@ class Case:
 
     # ---- histories of a session
 
+    def ceiling(self, number):
+        """Around the number, at an end, none, or any."""
+        if self.r.below(5) < 3:
+            return min(max(number + self.r.one_of((-300, -1, 0, 0, 1, 1, 2, 3, 5, 8)), 0), CEILING_NONE)
+        return self.r.one_of((0, CEILING_NONE - 1, CEILING_NONE, CEILING_NONE, self.number(), self.number()))
+
     def begin(self):
         scheme = self.scheme()
         size = self.r.one_of((65, 128)) if self.one_in(24) else self.r.one_of((0, 1, 2, 3, 5, 8, 63, 64))
         nodes = [self.node(True) for _ in range(min(size, 6))]
         nodes += [self.r.one_of(nodes) if self.one_in(2) else self.node(True) for _ in range(size - len(nodes))]
         inputs = scheme, self.number(), self.identifier(), self.credentials(scheme), self.odd(pairs(nodes))
-        room = self.r.one_of((0, 177, 179, 356)) if self.one_in(40) else SESSION_SIZE
-        self.put("new", *self.misfit(inputs, [2, 3]), room=room)
+        room = self.r.one_of((0, 178, 179, 181, 360)) if self.one_in(40) else SESSION_SIZE
+        made = "new"
+        if self.bounded and self.r.below(6):
+            made, inputs = "new_ceiling", (*inputs, self.ceiling(inputs[1]))
+        self.put(made, *self.misfit(inputs, [2, 3]), room=room)
         self.replies = []
 
     def handed(self):
-        """The size and the mask of a session: at times another size, another version, an unknown mark, more than 64 nodes."""
+        """The size and the mask of a session: at times another size, another version, an unknown mark, more than 64 nodes. Version 1
+        had 178 bytes; the mask 3 makes 1 of 2."""
         state, kind = self.history.state, self.r.below(60)
         if kind == 0:
-            return self.r.one_of((0, 1, 2, 177, 179, 356)), b""
+            size = self.r.one_of((0, 1, 2, 178, 179, 181, 360))
+            return size, b"\3" if size == 178 else b""
         if kind == 1:
-            return SESSION_SIZE, self.r.one_of((b"\1", b"\2", b"\xff"))
+            return SESSION_SIZE, self.r.one_of((b"\3", b"\2", b"\xff"))
         if kind == 2 and state:
             return SESSION_SIZE, bytes([0, self.r.one_of((state.scheme, 4, 0x80, 0xFC))])
         if kind == 3 and state:
@@ -464,11 +475,26 @@ class Case:
         else:
             self.put(self.r.one_of(("number", "count", "scheme", "id", "nodes")), *self.handed())
 
+    def bounded_call(self):
+        """A step, the ceiling, the number set to the ceiling or around it; or any call."""
+        state, kind = self.history.state, self.r.below(12)
+        if kind < 4:
+            self.put("step", *self.handed())
+        elif kind == 4:
+            self.put("ceiling", *self.handed())
+        elif kind == 5 and state:
+            around = state.ceiling + self.r.one_of((-2, -1, 0, 1, 2))
+            self.put("set", *self.handed(), min(max(around, 0), 65535))
+        else:
+            self.session_call()
+
     def session(self):
         self.begin()
+        call = self.bounded_call if self.bounded else self.session_call
         for _ in range(2 + self.r.below(HISTORY_MOST if self.history.state else 2)):
-            self.session_call()
-        for operation in ("number", "count", "scheme", "id", "nodes"):
+            call()
+        told = ("number", "count", "scheme", "id", "nodes")
+        for operation in (*told, "ceiling") if self.bounded else told:
             self.put(operation, SESSION_SIZE, b"")
 
 
@@ -493,5 +519,8 @@ KINDS = [kind for kind, share in SHARES.items() for _ in range(share)]
 
 
 def build(case):
-    getattr(case, case.r.one_of(KINDS))()
+    if case.bounded:
+        case.session()
+    else:
+        getattr(case, case.r.one_of(KINDS))()
     return case.history

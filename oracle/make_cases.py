@@ -31,6 +31,11 @@ RUNS = [
     ("Session: 65,537 responses turned away", 1 + 65537 + 1),
     # The making and six steps; in each scheme the making and ten responses.
     ("Session: number and response steps at their corners", 1 + 6 + 2 * (1 + 10)),
+    # Six makings and a step of each; in each scheme the making, two responses with a step after each, three settings
+    # with a step and the session after each.
+    ("Session: number and response steps under a ceiling", 6 * 2 + 2 * (1 + 2 * 2 + 3 * 2)),
+    # The making, each step, and the one that is refused.
+    ("Session: 65,535 number steps", 1 + 65535 + 1),
     # Two derivations and their keys, five checks about random 1, five about random 2, eight about two frames; AES has
     # three about session keys. Each scheme by its mark and by mark 0.
     ("Both ends through every call, by mark and scheme", 2 * (3 + 5 + 5 + 8) + 2 * (3 + 5 + 5 + 3 + 8)),

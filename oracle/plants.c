@@ -29,6 +29,16 @@
     P(TRIM_LAST, "trim_last", "trimmed opening: a last byte of 3 drops three bytes, whatever they are") \
     P(CHECK, "check", "checking 1B: the last byte is not compared") \
     P(STEP, "step", "number step at 0xFFFF: 0 and the number 0") \
+    P(ABOVE, "above", "number step: at the ceiling it is taken, and refused above it alone") \
+    P(EARLY, "early", "number step: 9 one below the ceiling") \
+    P(LOST, "lost", "number step: the ceiling goes to 0xFFFF") \
+    P(NINE, "nine", "number step: 9 sets the number to the ceiling") \
+    P(VERSION, "version", "number step: bytes of version 1 are taken") \
+    P(CLIPS, "clips", "setting the number: not past the ceiling") \
+    P(CLIPS_RESPONSE, "clips_response", "response step: the number does not go past the ceiling") \
+    P(RAISED, "raised", "making: a ceiling below the number becomes the number") \
+    P(NONE, "none", "making without a ceiling: it is 0xFFFE") \
+    P(CEILING, "ceiling", "a session's ceiling: told as one more") \
     P(SET, "set", "setting the number: it does not go back") \
     P(INDEX, "index", "node index: the last place") \
     P(COUNT, "count", "response step: 14 is not counted") \
@@ -66,6 +76,9 @@ void list_plants(void)
         printf("%s %s\n", plants[i].name, plants[i].what);
     }
 }
+
+// Where a session has its numbers.
+enum { AT_NUMBER = 2, AT_CEILING = 4, AT_COUNT = 178 };
 
 static int is(const struct call *c, const char *operation)
 {
@@ -149,6 +162,9 @@ static uint64_t in_answer(const struct call *c, uint64_t answer)
     if (plant == PADDING_REFUSED && is(c, "auth2seal") && number == FELICA_OUTPUT_TOO_SMALL) {
         return answer | (uint64_t)(-c->in[1].n % 8) << 48;
     }
+    if (plant == CEILING && is(c, "ceiling") && number == 0 && felica_answer_ceiling(answer) != FELICA_CEILING_NONE) {
+        return answer + ((uint64_t)1 << 32);
+    }
     if (plant == FORECAST && is(c, "forecast") && number == 0 && c->length == 17 && c->scheme == FELICA_SCHEME_AES128) {
         return (uint64_t)(17 + 10 + 1) << 16;
     }
@@ -226,7 +242,7 @@ static uint64_t taken(const struct call *c, const uint8_t *before, uint64_t answ
     uint64_t own = felica_decrypt_response(before[1], c->code, before + 8, FELICA_ID_SIZE, before + 14, keys, c->in[0].at, c->in[0].n,
                                            whole, sizeof whole);
 
-    if (felica_answer_transaction_number(own) != pair(before + 2) || felica_answer_length(own) > c->out.n) {
+    if (felica_answer_transaction_number(own) != pair(before + AT_NUMBER) || felica_answer_length(own) > c->out.n) {
         return answer;
     }
     memcpy(c->session.at, before, FELICA_SESSION_SIZE);
@@ -238,23 +254,69 @@ static uint64_t taken(const struct call *c, const uint8_t *before, uint64_t answ
 
 static uint64_t received(const struct call *c, const uint8_t *before, uint64_t answer)
 {
-    unsigned number = felica_answer_number(answer), count = pair(before + 4);
+    unsigned number = felica_answer_number(answer), count = pair(before + AT_COUNT), ceiling = pair(before + AT_CEILING);
 
     if (plant == COUNT && number == FELICA_ID_DIFFERS) {
-        put_pair(c->session.at + 4, count);
+        put_pair(c->session.at + AT_COUNT, count);
     }
     if (plant == COUNT_16 && number == FELICA_OUTPUT_TOO_SMALL) {
-        put_pair(c->session.at + 4, count + 1);
+        put_pair(c->session.at + AT_COUNT, count + 1);
     }
     if (plant == WRAPS && number >= FELICA_NOT_WHOLE_BLOCKS && number <= FELICA_NUMBER_NOT_ABOVE) {
-        put_pair(c->session.at + 4, count + 1);
+        put_pair(c->session.at + AT_COUNT, count + 1);
+    }
+    if (plant == CLIPS_RESPONSE && number == FELICA_OK && felica_answer_transaction_number(answer) > ceiling) {
+        put_pair(c->session.at + AT_NUMBER, ceiling);
     }
     return plant == EQUAL && number == FELICA_NUMBER_NOT_ABOVE ? taken(c, before, answer) : answer;
+}
+
+static uint64_t stepped(const struct call *c, const uint8_t *before, uint64_t answer)
+{
+    unsigned number = pair(before + AT_NUMBER), ceiling = pair(before + AT_CEILING);
+
+    if (plant == STEP && answer == FELICA_NUMBER_EXHAUSTED && number == 0xFFFF) {
+        put_pair(c->session.at + AT_NUMBER, 0);
+        return FELICA_OK;
+    }
+    if (plant == ABOVE && answer == FELICA_NUMBER_EXHAUSTED && number == ceiling && number != 0xFFFF) {
+        put_pair(c->session.at + AT_NUMBER, number + 1);
+        return (uint64_t)(number + 1) << 32;
+    }
+    if (plant == EARLY && felica_answer_number(answer) == FELICA_OK && number + 1 == ceiling) {
+        put_pair(c->session.at + AT_NUMBER, number);
+        return FELICA_NUMBER_EXHAUSTED;
+    }
+    if (plant == LOST && felica_answer_number(answer) == FELICA_OK) {
+        put_pair(c->session.at + AT_CEILING, FELICA_CEILING_NONE);
+    }
+    if (plant == NINE && answer == FELICA_NUMBER_EXHAUSTED) {
+        put_pair(c->session.at + AT_NUMBER, ceiling);
+    }
+    if (plant == VERSION && answer == FELICA_BAD_MARK_OR_LENGTH && c->session.n > AT_CEILING && c->session.at[0] == 1) {
+        put_pair(c->session.at + AT_NUMBER, number + 1);
+        return (uint64_t)(number + 1) << 32;
+    }
+    return answer;
+}
+
+// A making that was accepted.
+static void created(const struct call *c)
+{
+    if (plant == RAISED && pair(c->out.at + AT_CEILING) < c->number) {
+        put_pair(c->out.at + AT_CEILING, c->number);
+    }
+    if (plant == NONE && is(c, "new")) {
+        put_pair(c->out.at + AT_CEILING, FELICA_CEILING_NONE - 1);
+    }
 }
 
 uint64_t planted(const struct call *c, const uint8_t *before, uint64_t answer)
 {
     in_memory(c, answer);
+    if ((is(c, "new") || is(c, "new_ceiling")) && felica_answer_number(answer) == FELICA_OK) {
+        created(c);
+    }
     if (plant == TRIM && is(c, "trimmed") && felica_answer_number(answer) == 0) {
         return trimmed(c, answer, 7, 0);
     }
@@ -267,12 +329,14 @@ uint64_t planted(const struct call *c, const uint8_t *before, uint64_t answer)
     if (plant == CHECK && is(c, "check1b")) {
         return first_bytes(c, answer);
     }
-    if (plant == STEP && is(c, "step") && answer == FELICA_NUMBER_EXHAUSTED) {
-        put_pair(c->session.at + 2, 0);
-        return FELICA_OK;
+    if (is(c, "step")) {
+        return stepped(c, before, answer);
     }
-    if (plant == SET && is(c, "set") && answer == FELICA_OK && c->number < pair(before + 2)) {
-        put_pair(c->session.at + 2, pair(before + 2));
+    if (plant == SET && is(c, "set") && answer == FELICA_OK && c->number < pair(before + AT_NUMBER)) {
+        put_pair(c->session.at + AT_NUMBER, pair(before + AT_NUMBER));
+    }
+    if (plant == CLIPS && is(c, "set") && answer == FELICA_OK && c->number > pair(before + AT_CEILING)) {
+        put_pair(c->session.at + AT_NUMBER, pair(before + AT_CEILING));
     }
     if (plant == INDEX && is(c, "index") && felica_answer_number(answer) == 0) {
         return last_place(before, c->number, answer);

@@ -11,7 +11,9 @@ import session_cases
 from cases import AES, DES
 from original import ROOT, answer
 
-SESSION_SIZE, VERSION, NOT_LISTED = 178, 1, 64
+SESSION_SIZE, VERSION, NOT_LISTED = 180, 2, 64
+# The ceiling of a session that is made without one: the original's.
+CEILING_NONE = 0xFFFF
 COUNT_MOST = 65535
 
 
@@ -43,19 +45,23 @@ class State(NamedTuple):
     credentials: bytes
     nodes: bytes
     count: int = 0
+    ceiling: int = CEILING_NONE
 
     def layout(self):
-        """Its bytes, in the layout of version 1."""
-        numbers = (self.number, self.count, len(self.nodes) // 2)
+        """Its bytes, in the layout of version 2."""
+        numbers = (self.number, self.ceiling, len(self.nodes) // 2)
         head = bytes([VERSION, self.scheme]) + b"".join(n.to_bytes(2, "little") for n in numbers)
-        return head + self.identifier + self.credentials.ljust(36, b"\0") + self.nodes.ljust(128, b"\0")
+        parts = self.identifier + self.credentials.ljust(36, b"\0") + self.nodes.ljust(128, b"\0")
+        return head + parts + self.count.to_bytes(2, "little")
 
 
 # ---- what the original is asked
 
 CHALLENGES = ("make1a", "read1a", "make1b", "check1b", "make2a", "read2a", "make2b", "check2b")
 # Operations on a session: of these the inputs start with the state, the size that is handed over, and the mask.
-SESSION = ("step", "set", "send", "receive", "index", "number", "count", "scheme", "id", "nodes")
+SESSION = ("step", "set", "send", "receive", "index", "number", "count", "ceiling", "scheme", "id", "nodes")
+# Those that make one: the five parts, with `new_ceiling` the ceiling, then the output's size.
+MAKINGS = ("new", "new_ceiling")
 # The place of an accessor's value in the answer to `session`.
 ACCESSORS = {"scheme": 1, "number": 2, "id": 3, "nodes": 4}
 
@@ -85,9 +91,14 @@ def command(operation, inputs):
         return operation[:-2], (operation[-2:], *inputs)
     if operation in SESSION:
         return session_command(operation, *inputs) if inputs[0] else None
-    if operation == "new":
+    if operation in MAKINGS:
         return "session", inputs[:5]
     return operation, inputs
+
+
+def made(operation, inputs):
+    """The session that a making gives."""
+    return State(*inputs[:5], ceiling=inputs[5] if operation == "new_ceiling" else CEILING_NONE)
 
 
 def from_fields(operation, inputs, fields):
@@ -97,9 +108,10 @@ def from_fields(operation, inputs, fields):
         return Answer(number, scheme, transaction=node, data=keys)
     if operation in ("open", "auth2open_aes", "receive"):
         return Answer(fields[0], transaction=fields[1], data=fields[2])
-    if operation == "new":
+    if operation in MAKINGS:
         scheme, number, identifier, nodes = fields[1:]
-        return Answer(data=State(scheme, number, identifier, inputs[3], nodes).layout())
+        own = (scheme, number, identifier, inputs[3], nodes)
+        return Answer(data=made(operation, (*own, *inputs[5:])).layout())
     if operation == "step":
         return Answer(fields[0], transaction=fields[1])
     if operation == "index":
@@ -123,7 +135,8 @@ KEYS = {DES: 8, AES: 36}
 def unknown_mark(rules, operation, inputs):
     if operation == "derive":
         return inputs[0] > 2
-    return operation in ("search", "seal", "frame", "open", "forecast", "new", *CHALLENGES) and inputs[0] not in (DES, AES)
+    marked = ("search", "seal", "frame", "open", "forecast", *MAKINGS, *CHALLENGES)
+    return operation in marked and inputs[0] not in (DES, AES)
 
 
 def wrong_length(rules, operation, inputs):
@@ -138,7 +151,7 @@ def wrong_length(rules, operation, inputs):
         "auth2open_aes": ((0, 6), (1, 36)),
         "package": ((0, 8),),
         "session_keys": ((2, 16),),
-        "new": ((2, 6), (3, KEYS)),
+        **{name: ((2, 6), (3, KEYS)) for name in MAKINGS},
     }
     if operation in CHALLENGES:
         # 1A and 2B have no Challenge 3C.
@@ -160,13 +173,13 @@ def broken_entries(rules, operation, inputs):
         return bool(len(keys) % 19 or len(areas) % 2 or len(services) % 2 or any(a not in (1, 2) for a in algorithms))
     if operation == "search":
         return len(inputs[2]) % 19 != 0
-    return operation == "new" and len(inputs[4]) % 2 == 1
+    return operation in MAKINGS and len(inputs[4]) % 2 == 1
 
 
 def no_session(rules, operation, inputs):
     """What is handed over is none, or the output of a new one has another size."""
     if operation not in SESSION:
-        return operation == "new" and inputs[5] != SESSION_SIZE
+        return operation in MAKINGS and inputs[-1] != SESSION_SIZE
     state, size, mask = inputs[:3]
     if state is None or size != SESSION_SIZE:
         return True
@@ -179,11 +192,20 @@ def too_many(rules, operation, inputs):
         return len(inputs[1]) > 128 * 19 or len(inputs[2]) > 32 * 2 or len(inputs[3]) > 32 * 2
     if operation == "search":
         return len(inputs[2]) > 128 * 19
-    return operation == "new" and len(inputs[4]) > 64 * 2
+    return operation in MAKINGS and len(inputs[4]) > 64 * 2
 
 
 def twice(rules, operation, inputs):
     return operation == "derive" and session_cases.derive_number(*inputs) == 2
+
+
+def at_ceiling(rules, operation, inputs):
+    """A step that the ceiling alone refuses: the original's own is at 0xFFFF."""
+    return operation == "step" and inputs[0] is not None and inputs[0].ceiling <= inputs[0].number < CEILING_NONE
+
+
+def asks_ceiling(rules, operation, inputs):
+    return operation == "ceiling" and inputs[0] is not None
 
 
 def receives_by(scheme, operation, inputs):
@@ -273,6 +295,12 @@ def forecasts(rules, operation, inputs):
     return Answer(sealed.number, value=len(sealed.data))
 
 
+def steps(rules, operation, inputs):
+    """9 at the ceiling and above it, else the next number."""
+    state = inputs[0]
+    return Answer(9) if state.number >= state.ceiling else Answer(transaction=state.number + 1)
+
+
 def receives(rules, operation, inputs):
     """The opening, then 15 for a number that is not above the session's."""
     opened = rules.opened(inputs)
@@ -282,6 +310,10 @@ def receives(rules, operation, inputs):
 
 def counts(rules, operation, inputs):
     return Answer(value=inputs[0].count)
+
+
+def tells_ceiling(rules, operation, inputs):
+    return Answer(transaction=inputs[0].ceiling)
 
 
 def padding(operation, inputs):
@@ -321,6 +353,8 @@ DEPARTURES = [
     Departure("the search of a key list", "`search_key` | has no such function", has("search"), searches),
     Departure("trimmed opening", "`decrypt_secure_response_trimmed_des` | has no such function", has("trimmed"), trims),
     Departure("forecast", "`forecast` | has no such function", has("forecast"), forecasts),
+    Departure("the step at a ceiling", "a ceiling on a session | has none", at_ceiling, steps),
+    Departure("the ceiling", "a ceiling on a session | has none", asks_ceiling, tells_ceiling),
     Departure("another ID and a low number", "the response step | `apply`, in tests only", late_id, receives),
     Departure("the response step, AES", "the response step, AES | not there", receiving_aes, receives),
     Departure("the count", "the count of responses turned away | not there", has("count"), counts),
@@ -349,12 +383,19 @@ def document(operation, inputs):
     return session_cases.document(*command(operation, inputs))
 
 
+def nothing_fell():
+    """By departure: the calls that fell under it, and those of them that the original cannot be asked, or answers
+    otherwise."""
+    return {d.name: [0, 0] for d in (*DEPARTURES, SMALL, PADDED)}
+
+
+# What the rules give for a whole call: worked out for each that does not depart, and the original has to say the same.
+WHOLE = {"step": steps, "receive": receives}
+
+
 class Rules:
     def __init__(self, original):
-        self.original = original
-        # By departure: the calls that fell under it, and those of them that the original cannot be asked, or answers
-        # otherwise.
-        self.fell = {d.name: [0, 0] for d in (*DEPARTURES, SMALL, PADDED)}
+        self.original, self.fell = original, nothing_fell()
 
     def asked(self, operation, inputs):
         """The original's answer, None where it has no such call or input."""
@@ -378,7 +419,7 @@ class Rules:
             return self.departs(departure, own, departure.gives(self, operation, inputs))
         if own is None:
             raise Unlisted("the original has no such call or input, and no departure is listed")
-        wanted = receives(self, operation, inputs) if operation == "receive" else document(operation, inputs)
+        wanted = WHOLE[operation](self, operation, inputs) if operation in WHOLE else document(operation, inputs)
         if wanted and wanted not in (own, own.number):
             raise Unlisted(f"the rules give {wanted}, the original {own}, and no departure is listed")
         return own
@@ -401,8 +442,8 @@ class Rules:
 
 def after(state, operation, inputs, found):
     """The session after the call."""
-    if operation == "new":
-        return State(*inputs[:5]) if found.number == 0 else None
+    if operation in MAKINGS:
+        return made(operation, inputs) if found.number == 0 else None
     if operation == "receive" and 10 <= found.number <= 15:
         return state._replace(count=min(state.count + 1, COUNT_MOST))
     if found.number == 0 and operation in ("step", "receive"):

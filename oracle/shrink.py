@@ -2,7 +2,7 @@
 from cases import AES, DES
 from calls import FIELDS, WITHOUT_OUTPUT, History, replayed
 from original import answer
-from rules import SESSION, Unlisted
+from rules import MAKINGS, SESSION, Unlisted
 
 ATTEMPTS = 4000
 ENTRY = {"k": 19, "p": 2, "d": 1}
@@ -72,6 +72,11 @@ def smaller_calls(original, call, state):
     for at, kind in enumerate(FIELDS[call.operation]):
         for value in simpler(kind, call.inputs[at]):
             yield call._replace(inputs=(*call.inputs[:at], value, *call.inputs[at + 1 :]))
+    if call.operation == "new_ceiling":
+        # Number and ceiling as far apart as they were.
+        scheme, number, *others, ceiling = call.inputs
+        low = min(number, ceiling)
+        yield call._replace(inputs=(scheme, number - low, *others, ceiling - low))
     yield from sealed_anew(original, call, state)
 
 
@@ -91,7 +96,7 @@ def history_of(rules, calls):
 
 def refitted(rules, before, old, new):
     """The new call, in an output as much above or below the size of what is written as the old one's."""
-    if old.operation in WITHOUT_OUTPUT or old.operation == "new":
+    if old.operation in (*WITHOUT_OUTPUT, *MAKINGS):
         return new
     try:
         change = need(history_of(rules, before), new) - need(history_of(rules, before), old)

@@ -30,7 +30,7 @@ pub const DES_KEY_SIZE: usize = 8;
 pub const AES_CREDENTIALS_SIZE: usize = 36;
 pub const SEALED_MAX: usize = 253;
 pub const FRAME_MAX: usize = 255;
-pub const SESSION_SIZE: usize = 178;
+pub const SESSION_SIZE: usize = 180;
 const NODE_NOT_LISTED: u16 = 64;
 
 /// The functions as C has them. Behind each pointer stands its length.
@@ -82,6 +82,8 @@ mod c {
 
         pub fn felica_session_new(scheme: u8, number: u16, id: In, _: usize, credentials: In, _: usize,
                                   nodes: In, _: usize, session: Out, _: usize) -> u64;
+        pub fn felica_session_new_with_ceiling(scheme: u8, number: u16, ceiling: u16, id: In, _: usize, credentials: In, _: usize,
+                                               nodes: In, _: usize, session: Out, _: usize) -> u64;
         pub fn felica_session_increment_transaction_number(session: Out, _: usize) -> u64;
         pub fn felica_session_set_transaction_number(session: Out, _: usize, number: u16) -> u64;
         pub fn felica_session_encrypt_command(session: In, _: usize, code: u8, payload: In, _: usize,
@@ -90,6 +92,7 @@ mod c {
                                              out: Out, _: usize) -> u64;
         pub fn felica_session_node_index(session: In, _: usize, node: u16) -> u64;
         pub fn felica_session_transaction_number(session: In, _: usize) -> u64;
+        pub fn felica_session_ceiling(session: In, _: usize) -> u64;
         pub fn felica_session_turned_away(session: In, _: usize) -> u64;
         pub fn felica_session_scheme(session: In, _: usize) -> u64;
         pub fn felica_session_transaction_id(session: In, _: usize, out: Out, _: usize) -> u64;
@@ -169,7 +172,7 @@ impl Refusal {
             Refusal::IndividualKeyWithDes => (6, "an individual key with DES"),
             Refusal::DesWithoutArea => (7, "DES without an area"),
             Refusal::DesWithoutKeyedService => (8, "DES without a service that bears a key"),
-            Refusal::NumberExhausted => (9, "the transaction number is 0xFFFF"),
+            Refusal::NumberExhausted => (9, "the transaction number is at or above the ceiling"),
             Refusal::NotWholeBlocks => (10, "not whole blocks of 8 bytes, or an empty package"),
             Refusal::TooShort => (11, "too short"),
             Refusal::TooLong => (12, "too long"),
@@ -212,7 +215,7 @@ fn length(answer: u64) -> u16 {
     (answer >> 16) as u16
 }
 
-/// The number of what was opened, or of a session; the same bits are the node that has no key.
+/// The number of what was opened, or of a session; the same bits are a session's ceiling, and the node that has no key.
 fn transaction_number(answer: u64) -> u16 {
     (answer >> 32) as u16
 }
@@ -525,13 +528,29 @@ impl Session {
         Ok(session)
     }
 
+    /// A session whose number does not step once it is at or above the ceiling. `new` makes one of ceiling 0xFFFF.
+    pub fn new_with_ceiling(
+        scheme: u8,
+        number: u16,
+        ceiling: u16,
+        id: &[u8],
+        credentials: &[u8],
+        nodes: &[u8],
+    ) -> Result<Session, Refusal> {
+        let mut session = Session([0; SESSION_SIZE]);
+        accepted(
+            call!(felica_session_new_with_ceiling(scheme, number, ceiling; id, credentials, nodes; session.0)),
+        )?;
+        Ok(session)
+    }
+
     /// Steps the number, before a command is sealed. Gives the new number.
     pub fn increment_transaction_number(&mut self) -> Result<u16, Refusal> {
         accepted(call!(felica_session_increment_transaction_number(;; self.0)))
             .map(transaction_number)
     }
 
-    /// Sets the number, whatever it was.
+    /// Sets the number, whatever it was; it may go past the ceiling.
     pub fn set_transaction_number(&mut self, number: u16) -> Result<(), Refusal> {
         let (session, len) = (self.0.as_mut_ptr(), self.0.len());
         // SAFETY: as for `call!`.
@@ -595,6 +614,10 @@ impl Session {
 
     pub fn transaction_number(&self) -> Result<u16, Refusal> {
         accepted(call!(felica_session_transaction_number(; self.0;))).map(transaction_number)
+    }
+
+    pub fn ceiling(&self) -> Result<u16, Refusal> {
+        accepted(call!(felica_session_ceiling(; self.0;))).map(transaction_number)
     }
 
     /// How many responses were turned away with 10 to 15, at most 65,535.

@@ -540,7 +540,7 @@ fn small_output(session: &mut Session, card: &mut Card, p: &Profile) -> Outcome<
     reader_accepts(session, p.written, &response)
 }
 
-/// No number is used twice: after 0xFFFF the reader has to authenticate anew.
+/// No number is used twice: after 0xFFFF, which is the ceiling of this session, the reader has to authenticate anew.
 fn last_number(session: &mut Session) -> Outcome<()> {
     println!(" the last number");
     session.set_transaction_number(0xFFFF)?;
@@ -665,11 +665,52 @@ fn search() -> Outcome<()> {
     Ok(())
 }
 
+/// A card that opens the dock for two commands: the session's ceiling is 3. A response that is taken raises the number too, the second one past
+/// the ceiling, and then the number does not step.
+fn limited_session() -> Outcome<()> {
+    let (id, key) = (
+        &FIXED_RANDOM_1[2..2 + ID_SIZE],
+        &FIXED_RANDOM_2[..DES_KEY_SIZE],
+    );
+    let services = nodes(&DES_CARD.services);
+    let (code, status) = (DES_CARD.written, [0, 0]);
+    let mut session = Session::new_with_ceiling(SCHEME_DES, 0, 3, id, key, &services)?;
+    let card = Seal {
+        scheme: SCHEME_DES,
+        id,
+        credentials: key,
+    };
+    println!("A session with a ceiling");
+    println!(
+        "  reader  session made, number 0, ceiling {}",
+        session.ceiling()?
+    );
+    let mut commands = 0;
+    let end = loop {
+        let number = match session.increment_transaction_number() {
+            Ok(number) => number,
+            end => break end,
+        };
+        println!("  reader  a command with number {number}");
+        commands += 1;
+        // the card answers with the next number
+        let mut response = vec![0; FRAME_MAX];
+        let Sealed { len, .. } =
+            card.build_secure_response_frame(code, number + 1, &status, &mut response)?;
+        let mut payload = [0; SEALED_MAX];
+        let opened = session.apply_response(code, &response[2..len], &mut payload)?;
+        println!("  reader  a response with number {}", opened.number);
+    };
+    refused("reader", "number step", end, Refusal::NumberExhausted)?;
+    expect(commands == 2, "two commands under a ceiling of 3")
+}
+
 fn run() -> Outcome<()> {
     play(&AES_CARD)?;
     play(&DES_CARD)?;
     wrong_derivations()?;
     search()?;
+    limited_session()?;
     println!("All as expected.");
     Ok(())
 }

@@ -13,7 +13,7 @@ static const char *const places[PLACES] = {"in the middle", "at the start", "at 
 
 static struct given given_of(const struct call *c)
 {
-    struct given g = {c->operation, c->scheme, c->code, c->number, {{NULL, 0}}};
+    struct given g = {c->operation, c->scheme, c->code, c->number, c->ceiling, {{NULL, 0}}};
 
     g.in[IN_ID] = c->id;
     g.in[IN_KEYS] = c->credentials;
@@ -63,11 +63,11 @@ unsigned long calls(void)
 void describe_call(char *to, size_t n)
 {
     snprintf(to, n,
-             "call %lu: %s scheme %u code %u number %u ID %zu credentials %zu data %zu (starts %02x) 3C %zu checked %zu areas %zu "
+             "call %lu: %s scheme %u code %u number %u ceiling %u ID %zu credentials %zu data %zu (starts %02x) 3C %zu checked %zu areas %zu "
              "services %zu individual %zu nodes %zu session %zu output %zu, buffers %s: %016llx",
-             count, name_of(last.operation), last.scheme, last.code, last.number, last.id.n, last.credentials.n, last.data.n, last_first,
-             last.challenge_3c.n, last.checked.n, last.areas.n, last.services.n, last.individual.n, last.nodes.n, last.session.n, last_room,
-             places[last_place], (unsigned long long)last_passed.answer);
+             count, name_of(last.operation), last.scheme, last.code, last.number, last.ceiling, last.id.n, last.credentials.n, last.data.n,
+             last_first, last.challenge_3c.n, last.checked.n, last.areas.n, last.services.n, last.individual.n, last.nodes.n, last.session.n,
+             last_room, places[last_place], (unsigned long long)last_passed.answer);
 }
 
 void all_called(void)
@@ -150,12 +150,12 @@ void tells(const struct call *c, uint64_t answer)
 
 void makes(const struct call *c, const uint8_t *wanted)
 {
-    static const size_t others[] = {0, 1, 2, 177, 179, 256 + 178, 65536 + 178};
+    static const size_t others[] = {0, 1, 2, 178, 179, 181, 256 + 180, 65536 + 180};
     unsigned where;
     size_t i;
 
     for (where = 0; where < PLACES; where++) {
-        answers(c, 178, where, (uint64_t)178 << 16, wanted);
+        answers(c, 180, where, (uint64_t)180 << 16, wanted);
     }
     for (i = 0; i < sizeof others / sizeof others[0]; i++) {
         refuses_in(c, others[i], FELICA_BAD_MARK_OR_LENGTH);

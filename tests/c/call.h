@@ -12,6 +12,8 @@ struct call {
     uint8_t code;
     // of INDEX and SEARCH the node
     uint16_t number;
+    // of a making that takes one
+    uint16_t ceiling;
     // a transaction ID; of a challenge the IDm
     struct text id;
     // of a challenge the derived keys, of a derivation the key entries

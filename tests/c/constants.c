@@ -455,6 +455,23 @@ static void start(unsigned first)
     HOLDS(length(answer) == FELICA_SESSION_SIZE);
 }
 
+// The same, with a ceiling.
+static uint64_t start_under(unsigned first, unsigned ceiling, size_t room)
+{
+    return felica_session_new_with_ceiling(FELICA_SCHEME_DES, (uint16_t)first, (uint16_t)ceiling, zeros, FELICA_ID_SIZE, zeros,
+                                           FELICA_DES_KEY_SIZE, zeros, 0, session, room);
+}
+
+static uint64_t new_under(size_t room)
+{
+    return start_under(0, 1, room);
+}
+
+static uint64_t step(void)
+{
+    return felica_session_increment_transaction_number(session, FELICA_SESSION_SIZE);
+}
+
 static uint64_t new_in(size_t room)
 {
     return make(FELICA_SCHEME_AES128, 0, FELICA_ID_SIZE, FELICA_AES_CREDENTIALS_SIZE, zeros, 0, room);
@@ -490,6 +507,7 @@ static void sizes_of_sessions(void)
     unsigned version;
 
     fixed(FELICA_SESSION_SIZE, new_in);
+    fixed(FELICA_SESSION_SIZE, new_under);
     fixed(FELICA_ID_SIZE, new_id);
     limit(FELICA_SESSION_NODES_MAX, FELICA_SESSION_NODES_MAX + 1, FELICA_TOO_MANY_ENTRIES, new_nodes);
     HOLDS(length(new_nodes(FELICA_SESSION_NODES_MAX)) == FELICA_SESSION_SIZE);
@@ -542,7 +560,7 @@ static void transaction_numbers(void)
 
     start(0);
     for (n = 1; n <= 0xFFFF; n++) {
-        uint64_t answer = felica_session_increment_transaction_number(session, FELICA_SESSION_SIZE);
+        uint64_t answer = step();
 
         HOLDS(number(answer) == FELICA_OK && felica_answer_transaction_number(answer) == n);
         HOLDS(felica_answer_transaction_number(felica_session_transaction_number(session, FELICA_SESSION_SIZE)) == n);
@@ -551,6 +569,22 @@ static void transaction_numbers(void)
         HOLDS(length(felica_encrypt_command(FELICA_SCHEME_AES128, 0x14, (uint16_t)n, zeros, FELICA_ID_SIZE, zeros,
                                             FELICA_AES_CREDENTIALS_SIZE, zeros, 0, data, 100)) == 10);
         HOLDS(felica_answer_transaction_number(open_aes(data, 10)) == n);
+    }
+}
+
+// Every ceiling, as a session tells it: it steps below it, and not at it. One that is made without has FELICA_CEILING_NONE.
+static void ceilings(void)
+{
+    unsigned n;
+
+    start(5);
+    HOLDS(felica_answer_ceiling(felica_session_ceiling(session, FELICA_SESSION_SIZE)) == FELICA_CEILING_NONE);
+    for (n = 0; n <= 0xFFFF; n++) {
+        HOLDS(length(start_under(n, n, FELICA_SESSION_SIZE)) == FELICA_SESSION_SIZE);
+        HOLDS(felica_answer_ceiling(felica_session_ceiling(session, FELICA_SESSION_SIZE)) == n);
+        HOLDS(number(step()) == FELICA_NUMBER_EXHAUSTED);
+        HOLDS(number(felica_session_set_transaction_number(session, FELICA_SESSION_SIZE, (uint16_t)(n - 1))) == FELICA_OK);
+        HOLDS(number(step()) == (n == 0 ? FELICA_NUMBER_EXHAUSTED : FELICA_OK));
     }
 }
 
@@ -665,8 +699,10 @@ static void numbers_of_sessions(void)
     HOLDS(number(felica_session_set_transaction_number(session, FELICA_SESSION_SIZE, 4)) == FELICA_OK);
     HOLDS(number(apply(data, 16)) == FELICA_OK);
     HOLDS(number(felica_session_set_transaction_number(session, FELICA_SESSION_SIZE, 0xFFFE)) == FELICA_OK);
-    HOLDS(number(felica_session_increment_transaction_number(session, FELICA_SESSION_SIZE)) == FELICA_OK);
-    HOLDS(number(felica_session_increment_transaction_number(session, FELICA_SESSION_SIZE)) == FELICA_NUMBER_EXHAUSTED);
+    HOLDS(number(step()) == FELICA_OK);
+    HOLDS(number(step()) == FELICA_NUMBER_EXHAUSTED);
+    HOLDS(length(start_under(5, FELICA_CEILING_NONE, FELICA_SESSION_SIZE)) == FELICA_SESSION_SIZE);
+    HOLDS(number(step()) == FELICA_OK);
 }
 
 int main(void)
@@ -684,6 +720,7 @@ int main(void)
     numbers_of_frames();
     numbers_of_sessions();
     transaction_numbers();
+    ceilings();
     counts();
     lengths();
     paddings();

@@ -6,7 +6,7 @@
 #include <string.h>
 
 #define FAULTS(F) \
-    F(NEW_ROOM, "new session: takes an output of 179 bytes") \
+    F(NEW_ROOM, "new session: takes an output of 181 bytes") \
     F(NEW_65, "new session: 65 nodes are cut to 64") \
     F(NEW_64, "new session: 64 nodes are too many") \
     F(NEW_ORDER, "new session: 1 before 17") \
@@ -14,7 +14,25 @@
     F(NEW_NUMBER, "new session: the number has its bytes exchanged") \
     F(NEW_KEY, "new session, DES: a byte behind the key is not 0") \
     F(NEW_LEAKS, "new session: a refusal writes the version") \
-    F(STEP_SIZE, "step: takes 179 bytes") \
+    F(NEW_CEILING, "new session: a ceiling of 0xFFFE") \
+    F(UNDER_NONE, "new session with a ceiling: it has none") \
+    F(UNDER_EXCHANGED, "new session with a ceiling: number and ceiling exchanged") \
+    F(UNDER_CLIPS, "new session with a ceiling: a number above it is set to it") \
+    F(UNDER_REFUSES, "new session with a ceiling: 17 for a number above it") \
+    F(UNDER_0, "new session with a ceiling, AES: a ceiling of 0 is none") \
+    F(UNDER_65, "new session with a ceiling: 65 nodes are cut to 64") \
+    F(CEILING_AT, "step: at the ceiling it steps, and refuses one above") \
+    F(CEILING_BELOW, "step: 9 below the ceiling") \
+    F(CEILING_ANY, "step: goes by 0xFFFF alone") \
+    F(CEILING_FIRST, "step: 9 before 17") \
+    F(CEILING_LOST, "step: the session has no ceiling after it") \
+    F(CEILING_SET, "set: a number above the ceiling is set to it") \
+    F(CEILING_NOT_SET, "set: a number above the ceiling is refused") \
+    F(CEILING_RESPONSE, "response step: 15 for a number above the ceiling") \
+    F(CEILING_SEALING, "session's sealing: 9 above the ceiling") \
+    F(CEILING_COUNTED, "response step: no ceiling once the count is at its end") \
+    F(CEILING_RAISED, "response step: the ceiling goes up with the number") \
+    F(STEP_SIZE, "step: takes 181 bytes") \
     F(STEP_EARLY, "step: 9 at 0xFFFE") \
     F(STEP_AROUND, "step: from 0xFFFF to 0") \
     F(STEP_FORGETS, "step: the session keeps its number") \
@@ -51,6 +69,9 @@
     F(INDEX_BYTES, "index: the node's bytes exchanged") \
     F(TELL_HIGH, "session's number: its high byte is 0") \
     F(TELL_READS, "session's number: reads the byte behind the session") \
+    F(TELL_CEILING_NUMBER, "session's ceiling: the number in its place") \
+    F(TELL_CEILING_LENGTH, "session's ceiling: where the count has to be") \
+    F(TELL_OLD, "session's count: takes version 1") \
     F(TELL_NUMBERS, "session's count: where the number has to be") \
     F(TELL_MARK, "session's scheme: takes mark 3") \
     F(TELL_LENGTH, "session's scheme: where the length has to be") \
@@ -58,7 +79,13 @@
     F(ID_ROOM, "session's ID: content with 5 bytes") \
     F(NODES_ALL, "session's nodes: with the zeros behind them")
 
-PLANTED(session, sessions)
+static void first(void)
+{
+    sessions();
+    ceilings();
+}
+
+PLANTED(session, first)
 
 static unsigned get(const uint8_t *session, int at)
 {
@@ -81,12 +108,15 @@ static void spoil_made(uint8_t *session)
     if (fault == NEW_NUMBER) {
         put(session, AT_NUMBER, session[AT_NUMBER] * 256u + session[AT_NUMBER + 1]);
     }
+    if (fault == NEW_CEILING) {
+        put(session, AT_CEILING, 0xFFFE);
+    }
     if (fault == NEW_KEY && session[AT_SCHEME] == 1) {
         session[AT_CREDENTIALS + 35] = 1;
     }
 }
 
-uint64_t __wrap_felica_session_new(MADE)
+uint64_t __wrap_felica_session_new(uint8_t scheme, uint16_t number, MADE)
 {
     uint64_t answer;
 
@@ -99,7 +129,7 @@ uint64_t __wrap_felica_session_new(MADE)
     if (fault == NEW_64 && nodes_n == 128 && size == RECORD) {
         return 1;
     }
-    answer = __real_felica_session_new(PASS_MADE);
+    answer = __real_felica_session_new(scheme, number, PASS_MADE);
     if (answer % 256 == 0) {
         spoil_made(session);
     }
@@ -107,12 +137,51 @@ uint64_t __wrap_felica_session_new(MADE)
         return 1;
     }
     if (fault == NEW_LEAKS && answer == 1) {
-        session[AT_VERSION] = 1;
+        session[AT_VERSION] = VERSION;
     }
     return answer;
 }
 
+uint64_t __wrap_felica_session_new_with_ceiling(uint8_t scheme, uint16_t number, uint16_t ceiling, MADE)
+{
+    if (fault == UNDER_NONE || (fault == UNDER_0 && ceiling == 0 && scheme == FELICA_SCHEME_AES128)) {
+        ceiling = NO_CEILING;
+    }
+    if (fault == UNDER_CLIPS && number > ceiling) {
+        number = ceiling;
+    }
+    if (fault == UNDER_REFUSES && number > ceiling) {
+        return 17;
+    }
+    if (fault == UNDER_65 && nodes_n == 130) {
+        nodes_n = 128;
+    }
+    if (fault == UNDER_EXCHANGED) {
+        return __real_felica_session_new_with_ceiling(scheme, ceiling, number, PASS_MADE);
+    }
+    return __real_felica_session_new_with_ceiling(scheme, number, ceiling, PASS_MADE);
+}
+
 // ---- the number
+
+// The step as the fault of a ceiling has it, which is one among the CEILING_ faults.
+static uint64_t step_under(uint8_t *session, uint64_t answer)
+{
+    unsigned number = get(session, AT_NUMBER), ceiling = get(session, AT_CEILING);
+
+    if (answer == 9 && number != 0xFFFF && ((fault == CEILING_AT && number == ceiling) || fault == CEILING_ANY)) {
+        put(session, AT_NUMBER, number + 1);
+        return (uint64_t)(number + 1) << 32;
+    }
+    if (fault == CEILING_BELOW && answer % 256 == 0 && number == ceiling) {
+        put(session, AT_NUMBER, number - 1);
+        return 9;
+    }
+    if (fault == CEILING_LOST && answer % 256 == 0) {
+        put(session, AT_CEILING, NO_CEILING);
+    }
+    return answer;
+}
 
 uint64_t __wrap_felica_session_increment_transaction_number(KEPT)
 {
@@ -122,6 +191,9 @@ uint64_t __wrap_felica_session_increment_transaction_number(KEPT)
     if (fault == STEP_SIZE && size == RECORD + 1) {
         size = RECORD;
     }
+    if (fault == CEILING_FIRST && size == RECORD && number >= get(session, AT_CEILING)) {
+        return 9;
+    }
     answer = __real_felica_session_increment_transaction_number(PASS_SESSION);
     if (fault == STEP_EARLY && number == 0xFFFE && answer % 256 == 0) {
         put(session, AT_NUMBER, number);
@@ -130,6 +202,9 @@ uint64_t __wrap_felica_session_increment_transaction_number(KEPT)
     if (fault == STEP_AROUND && answer == 9) {
         put(session, AT_NUMBER, 0);
         return 0;
+    }
+    if (size == RECORD && answer != 17) {
+        answer = step_under(session, answer);
     }
     if (fault == STEP_FORGETS && answer % 256 == 0) {
         put(session, AT_NUMBER, number);
@@ -146,9 +221,16 @@ uint64_t __wrap_felica_session_increment_transaction_number(KEPT)
 
 uint64_t __wrap_felica_session_set_transaction_number(KEPT, uint16_t number)
 {
-    unsigned before = size == RECORD ? get(session, AT_NUMBER) : 0;
-    uint64_t answer = __real_felica_session_set_transaction_number(session, size, number);
+    unsigned before = size == RECORD ? get(session, AT_NUMBER) : 0, ceiling = size == RECORD ? get(session, AT_CEILING) : 0;
+    uint64_t answer;
 
+    if (fault == CEILING_NOT_SET && size == RECORD && number > ceiling) {
+        return 9;
+    }
+    answer = __real_felica_session_set_transaction_number(session, size, number);
+    if (fault == CEILING_SET && answer == 0 && number > ceiling) {
+        put(session, AT_NUMBER, ceiling);
+    }
     if (fault == SET_BACK && answer == 0 && number < before) {
         put(session, AT_NUMBER, before);
     }
@@ -165,6 +247,9 @@ uint64_t __wrap_felica_session_encrypt_command(SHOWN, EXCHANGED)
     uint8_t other[RECORD];
     uint64_t answer;
 
+    if (fault == CEILING_SEALING && size == RECORD && get(session, AT_NUMBER) > get(session, AT_CEILING)) {
+        return 9;
+    }
     if ((fault == SEAL_NEXT || fault == SEAL_ID) && size == RECORD) {
         memcpy(other, session, RECORD);
         if (fault == SEAL_NEXT) {
@@ -265,10 +350,20 @@ static uint64_t spoil_response(uint8_t *session, const uint8_t *before, uint64_t
         if (fault == COUNT_RESET) {
             put(session, AT_COUNT, 0);
         }
+        if (fault == CEILING_RESPONSE && get(session, AT_NUMBER) > get(session, AT_CEILING)) {
+            memcpy(session, before, RECORD);
+            return 15;
+        }
+        if (fault == CEILING_RAISED && get(session, AT_NUMBER) > get(session, AT_CEILING)) {
+            put(session, AT_CEILING, get(session, AT_NUMBER));
+        }
         return answer;
     }
     if (room != 0 && ((fault == APPLY_LEAKS && answer == 15) || (fault == APPLY_WRITES && answer == 16))) {
         out[0] ^= 1;
+    }
+    if (fault == CEILING_COUNTED && get(session, AT_COUNT) == 65535) {
+        put(session, AT_CEILING, NO_CEILING);
     }
     spoil_count(session, before, answer);
     return spoil_order(session, before, answer, PASS_EXCHANGED);
@@ -285,7 +380,7 @@ uint64_t __wrap_felica_session_apply_response(KEPT, EXCHANGED)
     memcpy(before, session, RECORD);
     version = session[AT_VERSION];
     if (fault == APPLY_VERSION) {
-        session[AT_VERSION] = 1;
+        session[AT_VERSION] = VERSION;
     }
     answer = __real_felica_session_apply_response(PASS_SESSION, PASS_EXCHANGED);
     session[AT_VERSION] = version;
@@ -349,10 +444,27 @@ uint64_t __wrap_felica_session_transaction_number(SHOWN)
     return __real_felica_session_transaction_number(PASS_SESSION) & (fault == TELL_HIGH ? 0xFFFFFFFFFFu : UINT64_MAX);
 }
 
+uint64_t __wrap_felica_session_ceiling(SHOWN)
+{
+    uint64_t answer = __real_felica_session_ceiling(PASS_SESSION);
+
+    if (fault == TELL_CEILING_NUMBER && answer % 256 == 0) {
+        return __real_felica_session_transaction_number(PASS_SESSION);
+    }
+    return fault == TELL_CEILING_LENGTH && answer % 256 == 0 ? answer >> 16 : answer;
+}
+
 uint64_t __wrap_felica_session_turned_away(SHOWN)
 {
-    uint64_t answer = __real_felica_session_turned_away(PASS_SESSION);
+    uint8_t other[RECORD];
+    uint64_t answer;
 
+    if (fault == TELL_OLD && size == RECORD && session[AT_VERSION] == 1) {
+        memcpy(other, session, RECORD);
+        other[AT_VERSION] = VERSION;
+        return __real_felica_session_turned_away(other, RECORD);
+    }
+    answer = __real_felica_session_turned_away(PASS_SESSION);
     return fault == TELL_NUMBERS && answer % 256 == 0 ? answer << 16 : answer;
 }
 
@@ -360,7 +472,7 @@ uint64_t __wrap_felica_session_scheme(SHOWN)
 {
     uint64_t answer = __real_felica_session_scheme(PASS_SESSION);
 
-    if (fault == TELL_MARK && answer == 17 && size == RECORD && session[AT_VERSION] == 1 && session[AT_SCHEME] == 3) {
+    if (fault == TELL_MARK && answer == 17 && size == RECORD && session[AT_VERSION] == VERSION && session[AT_SCHEME] == 3) {
         return 3 << 8;
     }
     return fault == TELL_LENGTH && answer % 256 == 0 ? answer << 8 : answer;

@@ -51,8 +51,9 @@ FACT(authentication2, FELICA_AUTHENTICATION2_PADDED_MAX == 240);
 FACT(sealed, FELICA_SEALED_MAX == 253);
 FACT(frame, FELICA_FRAME_MAX == 255);
 FACT(package, FELICA_PACKAGE_MAX == 4096);
-FACT(session, FELICA_SESSION_SIZE == 178);
-FACT(version, FELICA_SESSION_VERSION == 1);
+FACT(session, FELICA_SESSION_SIZE == 180);
+FACT(version, FELICA_SESSION_VERSION == 2);
+FACT(ceiling, FELICA_CEILING_NONE == 0xFFFF);
 FACT(session_nodes, FELICA_SESSION_NODES_MAX == 64);
 FACT(not_listed, FELICA_NODE_NOT_LISTED == 64);
 
@@ -99,7 +100,8 @@ static int accessors(void)
 
     return felica_answer_number(answer) == 0x56 && felica_answer_scheme(answer) == 0xEF && felica_answer_length(answer) == 0xABCD &&
            felica_answer_index(answer) == 0xABCD && felica_answer_count(answer) == 0xABCD &&
-           felica_answer_transaction_number(answer) == 0x1234 && felica_answer_node(answer) == 0x1234 && felica_answer_padding(answer) == 0x78;
+           felica_answer_transaction_number(answer) == 0x1234 && felica_answer_node(answer) == 0x1234 &&
+           felica_answer_ceiling(answer) == 0x1234 && felica_answer_padding(answer) == 0x78;
 }
 
 // A session of one byte: 17 from each.
@@ -110,12 +112,14 @@ static int session_calls(void)
     const uint64_t bad = FELICA_BAD_MARK_OR_LENGTH;
 
     return felica_session_new(1, 0, in, 1, in, 1, in, 1, session, 1) == bad &&
+           felica_session_new_with_ceiling(1, 0, 0, in, 1, in, 1, in, 1, session, 1) == bad &&
            felica_session_increment_transaction_number(session, 1) == bad &&
            felica_session_set_transaction_number(session, 1, 0) == bad &&
            felica_session_encrypt_command(in, 1, 0, in, 1, out, 1) == bad &&
            felica_session_apply_response(session, 1, 0, in, 1, out, 1) == bad &&
            felica_session_node_index(in, 1, 0) == bad &&
            felica_session_transaction_number(in, 1) == bad &&
+           felica_session_ceiling(in, 1) == bad &&
            felica_session_turned_away(in, 1) == bad &&
            felica_session_scheme(in, 1) == bad &&
            felica_session_transaction_id(in, 1, out, 1) == bad &&

@@ -95,31 +95,41 @@ static void respond(struct session *s, struct replay *last)
 // Any other call.
 static void other_call(struct session *s)
 {
-    static const enum operation operations[] = {STEP, STEP, STEP, SET, SEAL_IN, SEAL_IN, INDEX, TELL_NUMBER, TELL_COUNT, TELL_SCHEME,
-                                                GIVE_ID, GIVE_NODES};
-    struct call c = with_session(operations[dice(12)], NULL);
+    static const enum operation operations[] = {STEP,        STEP,         STEP,       SET,         SEAL_IN, SEAL_IN,   INDEX,
+                                                TELL_NUMBER, TELL_CEILING, TELL_COUNT, TELL_SCHEME, GIVE_ID, GIVE_NODES};
+    struct call c = with_session(operations[dice(13)], NULL);
     uint64_t answer;
 
     c.code = (uint8_t)dice(256);
     c.number = (uint16_t)(c.operation == SET ? number_near(s) : s->nodes[2 * dice(64)]);
     if (c.operation == SET && dice(8) == 0) {
-        c.number = (uint16_t)(0xFFFF - dice(3));
+        c.number = (uint16_t)(s->ceiling - dice(3));
     }
     c.data = sample(dice(60000), dice(260));
     answer = holds(s, c, some_room(c.data.n + 20), dice(4));
     had[answer % 256]++;
 }
 
+// None, one around the session's number, or any.
+static unsigned some_ceiling(const struct session *s)
+{
+    unsigned k = dice(3);
+
+    return k == 0 ? NO_CEILING : k == 1 ? number_near(s) : dice(65536);
+}
+
 // The session goes from call to call as bytes alone, each time at another place.
 static void history(unsigned scheme, unsigned seed, unsigned length)
 {
     struct session s = session_of(scheme, seed + 500, dice(65));
-    struct call making = making_of(&s);
+    struct call making;
     struct replay last;
     uint8_t bytes[RECORD];
     unsigned i;
 
     memset(&last, 0, sizeof last);
+    s.ceiling = some_ceiling(&s);
+    making = making_of(&s);
     write_session(&s, bytes);
     makes(&making, bytes);
     for (i = 0; i < length; i++) {

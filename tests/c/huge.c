@@ -16,29 +16,34 @@ static void sessions_over(const uint8_t *big, uint8_t *out)
 {
     const uint8_t *id = sample(1, 6).at, *key = sample(2, 8).at;
     uint8_t *read_only = (uint8_t *)(uintptr_t)big;
-    uint8_t session[178];
-    size_t n = OVER + 178;
+    uint8_t session[180];
+    size_t n = OVER + 180;
 
-    check(felica_session_new(1, 5, big, OVER + 6, key, 8, id, 2, out, 178) == 17, "ID, new session");
-    check(felica_session_new(1, 5, id, 6, big, OVER + 8, id, 2, out, 178) == 17, "credentials, new session");
-    check(felica_session_new(1, 5, id, 6, key, 8, big, OVER + 2, out, 178) == 1, "nodes, new session");
-    check(felica_session_new(1, 5, id, 6, key, 8, big, OVER + 1, out, 178) == 17, "nodes and a half, new session");
+    check(felica_session_new(1, 5, big, OVER + 6, key, 8, id, 2, out, 180) == 17, "ID, new session");
+    check(felica_session_new(1, 5, id, 6, big, OVER + 8, id, 2, out, 180) == 17, "credentials, new session");
+    check(felica_session_new(1, 5, id, 6, key, 8, big, OVER + 2, out, 180) == 1, "nodes, new session");
+    check(felica_session_new(1, 5, id, 6, key, 8, big, OVER + 1, out, 180) == 17, "nodes and a half, new session");
     check(felica_session_new(1, 5, id, 6, key, 8, id, 2, read_only, n) == 17, "new session");
+    check(felica_session_new_with_ceiling(1, 5, 9, big, OVER + 6, key, 8, id, 2, out, 180) == 17, "ID, new session with a ceiling");
+    check(felica_session_new_with_ceiling(1, 5, 9, id, 6, big, OVER + 8, id, 2, out, 180) == 17, "credentials, the same");
+    check(felica_session_new_with_ceiling(1, 5, 9, id, 6, key, 8, big, OVER + 2, out, 180) == 1, "nodes, the same");
+    check(felica_session_new_with_ceiling(1, 5, 9, id, 6, key, 8, id, 2, read_only, n) == 17, "new session with a ceiling");
     check(felica_session_increment_transaction_number(read_only, n) == 17, "session, step");
     check(felica_session_set_transaction_number(read_only, n, 1) == 17, "session, set");
     check(felica_session_encrypt_command(big, n, 0, id, 6, out, 5000) == 17, "session, sealing");
     check(felica_session_apply_response(read_only, n, 0, id, 6, out, 5000) == 17, "session, response");
     check(felica_session_node_index(big, n, 0) == 17, "session, index");
     check(felica_session_transaction_number(big, n) == 17, "session, number");
+    check(felica_session_ceiling(big, n) == 17, "session, ceiling");
     check(felica_session_turned_away(big, n) == 17, "session, count");
     check(felica_session_scheme(big, n) == 17, "session, scheme");
     check(felica_session_transaction_id(big, n, out, 5000) == 17, "session, ID");
     check(felica_session_nodes(big, n, out, 5000) == 17, "session, nodes");
 
-    check(felica_session_new(1, 5, id, 6, key, 8, id, 2, session, 178) == (uint64_t)178 << 16, "a session");
-    check(felica_session_encrypt_command(session, 178, 0, big, OVER + 16, out, 5000) == 12, "payload, session");
-    check(felica_session_apply_response(session, 178, 0, big, OVER + 16, out, 5000) == 12, "response, session");
-    check(felica_session_turned_away(session, 178) == 1 << 16, "count");
+    check(felica_session_new(1, 5, id, 6, key, 8, id, 2, session, 180) == (uint64_t)180 << 16, "a session");
+    check(felica_session_encrypt_command(session, 180, 0, big, OVER + 16, out, 5000) == 12, "payload, session");
+    check(felica_session_apply_response(session, 180, 0, big, OVER + 16, out, 5000) == 12, "response, session");
+    check(felica_session_turned_away(session, 180) == 1 << 16, "count");
 }
 
 static void frames_over(const uint8_t *big, uint8_t *out)
@@ -111,7 +116,8 @@ void huge(void)
     part("lengths over 32 bits");
     check(big != MAP_FAILED, "mmap");
     // the version and a mark of a session
-    big[0] = big[1] = 1;
+    big[0] = FELICA_SESSION_VERSION;
+    big[1] = FELICA_SCHEME_DES;
     check(mprotect(big, n, PROT_READ) == 0, "mprotect");
     memcpy(before, sample(4, sizeof before).at, sizeof before);
     memcpy(out, before, sizeof before);

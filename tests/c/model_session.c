@@ -14,6 +14,7 @@ struct session session_of(unsigned scheme, unsigned seed, unsigned listed)
     memset(&s, 0, sizeof s);
     s.scheme = scheme;
     s.number = seed * 40503 % 65536;
+    s.ceiling = NO_CEILING;
     s.listed = listed;
     memcpy(s.id, sample(seed + 41000, 6).at, 6);
     memcpy(s.credentials, sample(seed + 42000, 36).at, credentials_size(scheme));
@@ -29,14 +30,15 @@ static void write_number(unsigned n, uint8_t *to)
 
 void write_session(const struct session *s, uint8_t *to)
 {
-    to[AT_VERSION] = 1;
+    to[AT_VERSION] = VERSION;
     to[AT_SCHEME] = (uint8_t)s->scheme;
     write_number(s->number, to + AT_NUMBER);
-    write_number(s->turned, to + AT_COUNT);
+    write_number(s->ceiling, to + AT_CEILING);
     write_number(s->listed, to + AT_LISTED);
     memcpy(to + AT_ID, s->id, 6);
     memcpy(to + AT_CREDENTIALS, s->credentials, 36);
     memcpy(to + AT_NODES, s->nodes, 128);
+    write_number(s->turned, to + AT_COUNT);
 }
 
 static unsigned read_number(const uint8_t *at)
@@ -50,11 +52,12 @@ struct session read_session(const uint8_t *bytes)
 
     s.scheme = bytes[AT_SCHEME];
     s.number = read_number(bytes + AT_NUMBER);
-    s.turned = read_number(bytes + AT_COUNT);
+    s.ceiling = read_number(bytes + AT_CEILING);
     s.listed = read_number(bytes + AT_LISTED);
     memcpy(s.id, bytes + AT_ID, 6);
     memcpy(s.credentials, bytes + AT_CREDENTIALS, 36);
     memcpy(s.nodes, bytes + AT_NODES, 128);
+    s.turned = read_number(bytes + AT_COUNT);
     return s;
 }
 
@@ -79,7 +82,8 @@ struct call making_of(const struct session *s)
 {
     struct call c = sealing_of(s, 0, s->number, text_of(NULL, 0));
 
-    c.operation = MAKE_SESSION;
+    c.operation = s->ceiling == NO_CEILING ? MAKE_SESSION : MAKE_UNDER;
+    c.ceiling = (uint16_t)s->ceiling;
     c.nodes = text_of(s->nodes, 2 * s->listed);
     return c;
 }
@@ -120,10 +124,10 @@ static struct modelled says(uint64_t answer)
     return t;
 }
 
-// At 0xFFFF it refuses.
+// At or above the ceiling it refuses.
 static struct modelled step(struct session *s)
 {
-    if (s->number == 0xFFFF) {
+    if (s->number >= s->ceiling) {
         return says(FELICA_NUMBER_EXHAUSTED);
     }
     s->number++;
@@ -192,6 +196,8 @@ struct modelled session_call(struct session *s, const struct call *c, size_t roo
         return place(s, c->number);
     case TELL_NUMBER:
         return says((uint64_t)s->number << 32);
+    case TELL_CEILING:
+        return says((uint64_t)s->ceiling << 32);
     case TELL_COUNT:
         return says((uint64_t)s->turned << 16);
     case TELL_SCHEME:
@@ -224,10 +230,10 @@ int model_session(const struct call *c, struct modelled *m)
     const uint8_t *bytes = c->session.at;
     struct session s;
 
-    if (c->operation == MAKE_SESSION) {
+    if (c->operation == MAKE_SESSION || c->operation == MAKE_UNDER) {
         return 0;
     }
-    if (c->session.n != RECORD || bytes[AT_VERSION] != 1 || bytes[AT_SCHEME] < 1 || bytes[AT_SCHEME] > 2) {
+    if (c->session.n != RECORD || bytes[AT_VERSION] != VERSION || bytes[AT_SCHEME] < 1 || bytes[AT_SCHEME] > 2) {
         m->answer = FELICA_BAD_MARK_OR_LENGTH;
         return 1;
     }

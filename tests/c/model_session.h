@@ -4,13 +4,29 @@
 
 #include "models.h"
 
-// The layout: version 1, scheme mark 1, number 2, count 2, number of nodes 2, ID 6, credentials 36, nodes 128; low bytes first.
-#define RECORD 178
-enum { AT_VERSION = 0, AT_SCHEME = 1, AT_NUMBER = 2, AT_COUNT = 4, AT_LISTED = 6, AT_ID = 8, AT_CREDENTIALS = 14, AT_NODES = 50 };
+// The layout: the version (1 byte, with the value 2), scheme mark (1), number (2), ceiling (2), number of nodes (2), ID (6), credentials (36), nodes
+// (128), count (2); low bytes first.
+#define RECORD 180
+#define VERSION 2
+enum {
+    AT_VERSION = 0,
+    AT_SCHEME = 1,
+    AT_NUMBER = 2,
+    AT_CEILING = 4,
+    AT_LISTED = 6,
+    AT_ID = 8,
+    AT_CREDENTIALS = 14,
+    AT_NODES = 50,
+    AT_COUNT = 178
+};
+
+// The ceiling of a session that is made without one.
+#define NO_CEILING 0xFFFF
 
 struct session {
     unsigned scheme;
     unsigned number;
+    unsigned ceiling;
     unsigned turned;
     unsigned listed;
     uint8_t id[6];
@@ -18,13 +34,13 @@ struct session {
     uint8_t nodes[128];
 };
 
-// A session of the seed, with so many nodes.
+// A session of the seed, with so many nodes and without a ceiling.
 struct session session_of(unsigned scheme, unsigned seed, unsigned listed);
 // Its bytes, and the session of such bytes.
 void write_session(const struct session *s, uint8_t *to);
 struct session read_session(const uint8_t *bytes);
 
-// The call that makes it.
+// The call that makes it: felica_session_new, where it has no ceiling.
 struct call making_of(const struct session *s);
 // A call with the session of these bytes.
 struct call with_session(enum operation operation, const uint8_t *bytes);

@@ -80,6 +80,7 @@ unsigned long numbers_of(enum operation operation, unsigned mark)
 #define SCHEME TAKES_SCHEME
 #define CODE TAKES_CODE
 #define NUMBER TAKES_NUMBER
+#define CEILING TAKES_CEILING
 #define OUT TAKES_OUT
 #define IN(which) IN_##which
 #define LENGTH(which) TAKES_LENGTH
@@ -102,12 +103,14 @@ int takes(enum operation operation, enum argument argument)
 #undef SCHEME
 #undef CODE
 #undef NUMBER
+#undef CEILING
 #undef OUT
 #undef IN
 #undef LENGTH
 #define SCHEME g->scheme
 #define CODE g->code
 #define NUMBER g->number
+#define CEILING g->ceiling
 #define OUT out, room
 #define IN(which) in[IN_##which], g->in[IN_##which].n
 #define LENGTH(which) g->in[IN_##which].n

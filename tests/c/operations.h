@@ -38,12 +38,14 @@
     O(AUTH2_OPEN_AES, frames, felica_decrypt_authentication2_payload_v2_aes128, (IN(ID), IN(KEYS), IN(DATA), OUT), OPENING, \
       OF_AES | NUMBERED | OPENS) \
     O(MAKE_SESSION, session, felica_session_new, (SCHEME, NUMBER, IN(ID), IN(KEYS), IN(NODES), OUT), N(1), PLAIN) \
+    O(MAKE_UNDER, session, felica_session_new_with_ceiling, (SCHEME, NUMBER, CEILING, IN(ID), IN(KEYS), IN(NODES), OUT), N(1), PLAIN) \
     O(STEP, session, felica_session_increment_transaction_number, (IN(SESSION)), N(9), CHANGES | NUMBERED) \
     O(SET, session, felica_session_set_transaction_number, (IN(SESSION), NUMBER), 0, CHANGES) \
     O(SEAL_IN, session, felica_session_encrypt_command, (IN(SESSION), CODE, IN(DATA), OUT), SEALING, PADS) \
     O(APPLY, session, felica_session_apply_response, (IN(SESSION), CODE, IN(DATA), OUT), OPENING | N(15), CHANGES | NUMBERED | OPENS) \
     O(INDEX, session, felica_session_node_index, (IN(SESSION), NUMBER), 0, TELLS) \
     O(TELL_NUMBER, session, felica_session_transaction_number, (IN(SESSION)), 0, NUMBERED) \
+    O(TELL_CEILING, session, felica_session_ceiling, (IN(SESSION)), 0, NUMBERED) \
     O(TELL_COUNT, session, felica_session_turned_away, (IN(SESSION)), 0, TELLS) \
     O(TELL_SCHEME, session, felica_session_scheme, (IN(SESSION)), 0, MARKED) \
     O(GIVE_ID, session, felica_session_transaction_id, (IN(SESSION), OUT), N(16), PLAIN) \
@@ -58,7 +60,7 @@ enum family { FAMILIES(FAMILY_WORD) family_count };
 // The traits of an operation.
 enum trait {
     PLAIN = 0,
-    // an acceptance has a scheme mark; a transaction number; a value in the place of a length, though nothing is written
+    // an acceptance has a scheme mark; a transaction number or a ceiling; a value in the place of a length, though nothing is written
     MARKED = 1,
     NUMBERED = 2,
     TELLS = 4,
@@ -92,6 +94,7 @@ enum argument {
     TAKES_SCHEME,
     TAKES_CODE,
     TAKES_NUMBER,
+    TAKES_CEILING,
     // a length with no buffer
     TAKES_LENGTH,
     TAKES_OUT
@@ -104,6 +107,7 @@ struct given {
     uint8_t code;
     // a transaction number, or a node
     uint16_t number;
+    uint16_t ceiling;
     struct text in[INPUTS];
 };
 

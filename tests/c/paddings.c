@@ -8,8 +8,8 @@
 
 // The examples, then the rule for every length. A refusal has no padding: refuses_in compares the whole answer.
 
-static const uint8_t des_session[178] = {FELICA_SESSION_VERSION, FELICA_SCHEME_DES};
-static const uint8_t aes_session[178] = {FELICA_SESSION_VERSION, FELICA_SCHEME_AES128};
+static const uint8_t des_session[FELICA_SESSION_SIZE] = {FELICA_SESSION_VERSION, FELICA_SCHEME_DES};
+static const uint8_t aes_session[FELICA_SESSION_SIZE] = {FELICA_SESSION_VERSION, FELICA_SCHEME_AES128};
 
 static const enum operation sealings[] = {SEAL, FRAME, SEAL_IN, AUTH2_SEAL};
 

@@ -38,6 +38,8 @@
     P(crossings) \
     /* sessions: bytes that are none; making, stepping, sealing, opening, telling; orders of refusals; the count up to its end */ \
     P(sessions) \
+    /* sessions with a ceiling: makings, each ceiling with the numbers around it, settings and responses past it, how many commands it allows */ \
+    P(ceilings) \
     /* random calls with a session, right and wrong responses; two ends with a session each */ \
     P(histories) \
     /* each function was called with each of its numbers */ \

@@ -33,15 +33,15 @@ static void is_none(const uint8_t *bytes, size_t n)
 static void sizes(void)
 {
     // the last ones would be right if they were cut to 8 or 16 bits
-    static const size_t some[] = {512 + 178, 4096, 65536, 65536 + 178};
-    static uint8_t bytes[65536 + 178];
+    static const size_t some[] = {512 + RECORD, 4096, 65536, 65536 + RECORD};
+    static uint8_t bytes[65536 + RECORD];
     size_t n;
 
     memcpy(bytes, sample(13, sizeof bytes).at, sizeof bytes);
-    bytes[AT_VERSION] = 1;
+    bytes[AT_VERSION] = VERSION;
     bytes[AT_LISTED] = 5;
     bytes[AT_LISTED + 1] = 0;
-    for (n = 0; n <= 434; n++) {
+    for (n = 0; n <= 256 + RECORD; n++) {
         bytes[AT_SCHEME] = (uint8_t)(1 + n % 2);
         if (n != RECORD) {
             is_none(bytes, n);
@@ -58,14 +58,16 @@ static void versions_and_marks(unsigned scheme)
     uint8_t bytes[RECORD];
     unsigned b;
 
+    // so that a step would be 9, if they were a session
+    s.ceiling = s.number;
     write_session(&s, bytes);
     for (b = 0; b < 256; b++) {
         bytes[AT_VERSION] = (uint8_t)b;
-        if (b != 1) {
+        if (b != VERSION) {
             is_none(bytes, RECORD);
         }
     }
-    bytes[AT_VERSION] = 1;
+    bytes[AT_VERSION] = VERSION;
     for (b = 0; b < 256; b++) {
         bytes[AT_SCHEME] = (uint8_t)b;
         if (b != 1 && b != 2) {
@@ -81,6 +83,7 @@ static void forged_lists(unsigned scheme)
     uint8_t bytes[RECORD];
     unsigned n;
 
+    s.ceiling = s.number;
     for (n = 65; n <= 0xFFFF; n += n < 1024 || n > 0xFC00 ? 1 : 257) {
         s.listed = n;
         write_session(&s, bytes);
@@ -88,7 +91,34 @@ static void forged_lists(unsigned scheme)
     }
 }
 
+// What an older release kept is no session: 178 bytes of version 1, whose count stood where the ceiling is now. Nor is it one with two bytes
+// more, nor with the new version.
+static void older(unsigned scheme)
+{
+    struct session s = session_of(scheme, 14, 5);
+    uint8_t bytes[RECORD], old[RECORD];
+
+    s.turned = 3;
+    write_session(&s, bytes);
+    memcpy(old, bytes, RECORD);
+    old[AT_VERSION] = 1;
+    memcpy(old + 4, bytes + AT_COUNT, 2);
+    is_none(old, 178);
+    is_none(old, RECORD);
+    old[AT_VERSION] = VERSION;
+    is_none(old, 178);
+}
+
 // ---- making
+
+// A session to be made by this call: with a ceiling of the seed, where it takes one.
+static struct session asked_of(enum operation making, unsigned scheme, unsigned seed, unsigned listed)
+{
+    struct session s = session_of(scheme, seed, listed);
+
+    s.ceiling = making == MAKE_UNDER ? seed * 31153 % NO_CEILING : NO_CEILING;
+    return s;
+}
 
 static void makes_session(const struct session *s)
 {
@@ -99,7 +129,7 @@ static void makes_session(const struct session *s)
     makes(&c, bytes);
 }
 
-static void node_lists(unsigned scheme)
+static void node_lists(enum operation making, unsigned scheme)
 {
     static const size_t over[] = {130, 132, 192, 256, 258, 384, 65536, 65538};
     struct session s;
@@ -108,7 +138,7 @@ static void node_lists(unsigned scheme)
     size_t i;
 
     for (n = 0; n <= 64; n++) {
-        s = session_of(scheme, n + 100, n);
+        s = asked_of(making, scheme, n + 100, n);
         makes_session(&s);
     }
     c = making_of(&s);
@@ -124,9 +154,9 @@ static void node_lists(unsigned scheme)
     }
 }
 
-static void makings(unsigned scheme)
+static void makings(enum operation making, unsigned scheme)
 {
-    struct session s = session_of(scheme, 17, 64);
+    struct session s = asked_of(making, scheme, 17, 64);
     struct call good = making_of(&s), c;
     size_t n;
 
@@ -157,10 +187,10 @@ static void makings(unsigned scheme)
 }
 
 // Every set of what can be wrong: 17 before 1.
-static void making_orders(unsigned scheme)
+static void making_orders(enum operation making, unsigned scheme)
 {
     enum { MARK = 1, ID = 2, CREDENTIALS = 4, ODD = 8, ROOM = 16, MANY = 32, SETS = 64 };
-    struct session s = session_of(scheme, 20, 7);
+    struct session s = asked_of(making, scheme, 20, 7);
     unsigned set;
 
     makes_session(&s);
@@ -172,6 +202,18 @@ static void making_orders(unsigned scheme)
         c.credentials.n -= set & CREDENTIALS ? 1 : 0;
         c.nodes = sample(21, (set & MANY ? 130u : 14u) + (set & ODD ? 1 : 0));
         refuses_in(&c, set & ROOM ? RECORD + 1 : RECORD, set == MANY ? FELICA_TOO_MANY_ENTRIES : FELICA_BAD_MARK_OR_LENGTH);
+    }
+}
+
+static void both_makings(unsigned scheme)
+{
+    static const enum operation both[] = {MAKE_SESSION, MAKE_UNDER};
+    unsigned i;
+
+    for (i = 0; i < 2; i++) {
+        node_lists(both[i], scheme);
+        makings(both[i], scheme);
+        making_orders(both[i], scheme);
     }
 }
 
@@ -209,6 +251,8 @@ static void all_told(const struct session *s)
     write_session(s, bytes);
     c = with_session(TELL_NUMBER, bytes);
     tells(&c, (uint64_t)s->number << 32);
+    c = with_session(TELL_CEILING, bytes);
+    tells(&c, (uint64_t)s->ceiling << 32);
     c = with_session(TELL_COUNT, bytes);
     tells(&c, (uint64_t)s->turned << 16);
     c = with_session(TELL_SCHEME, bytes);
@@ -227,6 +271,7 @@ static void parts(unsigned scheme)
     for (i = 0; i <= 64; i++) {
         s = session_of(scheme, i + 200, i);
         s.turned = i * 52711 % 65536;
+        s.ceiling = i * 31153 % 65536;
         all_told(&s);
     }
 }
@@ -300,6 +345,7 @@ static void applies(unsigned scheme, size_t n)
 
     s.number = (unsigned)n * 200;
     s.turned = (unsigned)n * 218;
+    s.ceiling = (unsigned)n * 201;
     write_session(&s, bytes);
     c.data = payload;
     c.code = (uint8_t)n;
@@ -334,7 +380,7 @@ static void apply_orders(unsigned scheme, unsigned below)
         number = set & SESSION ? 17 : set & MAC ? 13 : set & ID ? (scheme == 1 ? 14 : 13) : set & NUMBER ? 15 : set & ROOM ? 16 : 0;
         write_session(&s, bytes);
         c.after = session_after(s, number, sealing.number, after);
-        bytes[AT_VERSION] = after[AT_VERSION] = set & SESSION ? 2 : 1;
+        bytes[AT_VERSION] = after[AT_VERSION] = set & SESSION ? 1 : VERSION;
         if (number != 0) {
             refuses_in(&c, set & ROOM ? 23 : 24, number);
         } else {
@@ -383,6 +429,7 @@ static void counts(unsigned scheme, unsigned turned)
         responses[kind] = refused_response(&s, 10 + kind, data[kind]);
     }
     s.turned = turned;
+    s.ceiling = 0x1234;
     write_session(&s, bytes);
     for (i = 0; i < 65537 - turned; i++) {
         kind = i % 6;
@@ -425,9 +472,8 @@ static void by_scheme(unsigned scheme)
 
     versions_and_marks(scheme);
     forged_lists(scheme);
-    node_lists(scheme);
-    makings(scheme);
-    making_orders(scheme);
+    older(scheme);
+    both_makings(scheme);
     parts(scheme);
     for (n = 0; n < sizeof lists / sizeof lists[0]; n++) {
         indexes(scheme, lists[n], (unsigned)n + 35);

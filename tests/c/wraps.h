@@ -41,14 +41,12 @@ typedef const uint8_t *bytes;
 #define PASS_CHECKED checked, checked_n
 #define PASS_OUTPUT out, room
 
-#define MADE \
-    uint8_t scheme, uint16_t number, bytes id, size_t id_n, bytes key, size_t key_n, bytes nodes, size_t nodes_n, uint8_t *session, \
-        size_t size
+#define MADE bytes id, size_t id_n, bytes key, size_t key_n, bytes nodes, size_t nodes_n, uint8_t *session, size_t size
 #define KEPT uint8_t *session, size_t size
 #define SHOWN bytes session, size_t size
 #define EXCHANGED uint8_t code, bytes data, size_t n, OUTPUT
 
-#define PASS_MADE scheme, number, id, id_n, key, key_n, nodes, nodes_n, session, size
+#define PASS_MADE id, id_n, key, key_n, nodes, nodes_n, session, size
 #define PASS_SESSION session, size
 #define PASS_EXCHANGED code, data, n, out, room
 

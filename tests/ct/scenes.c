@@ -319,14 +319,22 @@ static uint64_t package(const struct scene *s)
 // ---- the session
 
 #define SESSION session, sizeof session
+#define CEILING (NUMBER_SEALED + 9)
+
+static const uint8_t listed[] = {0x00, 0x00, 0x08, 0x10};
 
 // A session whose credentials are secret: the making copies them, mark and all, to where it keeps them.
 static void establish(const struct scene *s)
 {
-    static const uint8_t nodes[] = {0x00, 0x00, 0x08, 0x10};
+    uint16_t number = s->twist == NUMBER ? NUMBER_SEALED : NUMBER_SEALED - 1;
 
     secret(credentials, sizeof credentials);
-    felica_session_new((uint8_t)s->scheme, s->twist == NUMBER ? NUMBER_SEALED : NUMBER_SEALED - 1, WITH_ID, nodes, sizeof nodes, SESSION);
+    if (s->twist >= CEILING_BELOW) {
+        felica_session_new_with_ceiling((uint8_t)s->scheme, number, (uint16_t)(number + s->twist - CEILING_REACHED), WITH_ID, listed,
+                                        sizeof listed, SESSION);
+    } else {
+        felica_session_new((uint8_t)s->scheme, number, WITH_ID, listed, sizeof listed, SESSION);
+    }
     if (secret_bytes(SESSION) != credentials_n(s->scheme)) {
         fprintf(stderr, "a session in which other bytes are secret than its credentials\n");
         exit(3);
@@ -335,11 +343,16 @@ static void establish(const struct scene *s)
 
 static uint64_t session_new(const struct scene *s)
 {
-    static const uint8_t nodes[] = {0x00, 0x00, 0x08, 0x10};
-
     fill_all();
     secret(credentials, sizeof credentials);
-    return MEASURE(felica_session_new((uint8_t)s->scheme, NUMBER_SEALED, WITH_ID, nodes, sizeof nodes, SESSION));
+    return MEASURE(felica_session_new((uint8_t)s->scheme, NUMBER_SEALED, WITH_ID, listed, sizeof listed, SESSION));
+}
+
+static uint64_t session_new_with_ceiling(const struct scene *s)
+{
+    fill_all();
+    secret(credentials, sizeof credentials);
+    return MEASURE(felica_session_new_with_ceiling((uint8_t)s->scheme, NUMBER_SEALED, CEILING, WITH_ID, listed, sizeof listed, SESSION));
 }
 
 static uint64_t session_increment(const struct scene *s)
@@ -384,6 +397,13 @@ static uint64_t session_number(const struct scene *s)
     fill_all();
     establish(s);
     return MEASURE(felica_session_transaction_number(SESSION));
+}
+
+static uint64_t session_ceiling(const struct scene *s)
+{
+    fill_all();
+    establish(s);
+    return MEASURE(felica_session_ceiling(SESSION));
 }
 
 static uint64_t session_count(const struct scene *s)
@@ -511,7 +531,11 @@ const struct scene scenes[] = {
      13, NO_OUT},
     {"felica_generate_registration_package_des", "DES", package, DES, RIGHT, 0, ALL_OUT},
     BOTH("felica_session_new", session_new, RIGHT, "", 0, NO_OUT, NO_OUT),
+    BOTH("felica_session_new_with_ceiling", session_new_with_ceiling, RIGHT, "", 0, NO_OUT, NO_OUT),
     BOTH("felica_session_increment_transaction_number", session_increment, RIGHT, "", 0, NO_OUT, NO_OUT),
+    BOTH("felica_session_increment_transaction_number", session_increment, CEILING_NEXT, ", to the ceiling", 0, NO_OUT, NO_OUT),
+    BOTH("felica_session_increment_transaction_number", session_increment, CEILING_REACHED, ", at the ceiling", 9, NO_OUT, NO_OUT),
+    BOTH("felica_session_increment_transaction_number", session_increment, CEILING_BELOW, ", above the ceiling", 9, NO_OUT, NO_OUT),
     BOTH("felica_session_set_transaction_number", session_set, RIGHT, "", 0, NO_OUT, NO_OUT),
     BOTH("felica_session_encrypt_command", session_encrypt, RIGHT, "", 0, ALL_OUT, 2),
     BOTH("felica_session_apply_response", session_apply, RIGHT, "", 0, ALL_OUT, ALL_OUT),
@@ -519,6 +543,7 @@ const struct scene scenes[] = {
     BOTH("felica_session_apply_response", session_apply, NUMBER, ", number not above", 15, NO_OUT, NO_OUT),
     BOTH("felica_session_node_index", session_node, RIGHT, "", 0, NO_OUT, NO_OUT),
     BOTH("felica_session_transaction_number", session_number, RIGHT, "", 0, NO_OUT, NO_OUT),
+    BOTH("felica_session_ceiling", session_ceiling, RIGHT, "", 0, NO_OUT, NO_OUT),
     BOTH("felica_session_turned_away", session_count, RIGHT, "", 0, NO_OUT, NO_OUT),
     BOTH("felica_session_scheme", session_scheme, RIGHT, "", 0, NO_OUT, NO_OUT),
     BOTH("felica_session_transaction_id", session_id, RIGHT, "", 0, NO_OUT, NO_OUT),

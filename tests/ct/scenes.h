@@ -7,7 +7,24 @@
 
 // What is wrong with what the call gets. CODE: data that was sealed under another code, so that the DES MAC's start differs in one byte.
 // ENDS_..: nothing is, and the payload ends in these bytes. FOUND_LAST, NOT_THERE: nothing is, and the key sought is the last, or none.
-enum twist { RIGHT, FIRST_BYTE, LAST_BYTE, CODE, ID_FIRST_BYTE, ID_LAST_BYTE, NUMBER, ENDS_5A, ENDS_5A_03, ENDS_03_03_03, FOUND_LAST, NOT_THERE };
+// CEILING_..: nothing is, and the session's ceiling is so far above its number.
+enum twist {
+    RIGHT,
+    FIRST_BYTE,
+    LAST_BYTE,
+    CODE,
+    ID_FIRST_BYTE,
+    ID_LAST_BYTE,
+    NUMBER,
+    ENDS_5A,
+    ENDS_5A_03,
+    ENDS_03_03_03,
+    FOUND_LAST,
+    NOT_THERE,
+    CEILING_BELOW,
+    CEILING_REACHED,
+    CEILING_NEXT
+};
 
 struct scene {
     // the function, and what it is called with

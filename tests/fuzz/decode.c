@@ -172,15 +172,30 @@ static void checked(struct feed *f, const struct recipe *r, struct shot *s)
     }
 }
 
-// ---- sessions: made by the library, or with a byte changed, or any bytes
+// ---- sessions: made by the library, or with a byte changed, or of an older version, or any bytes
+
+int makes_session(enum operation op)
+{
+    return op == MAKE_SESSION || op == MAKE_UNDER;
+}
+
+// Any, or from three below the number to four above.
+static uint16_t ceiling_of(const struct recipe *r, unsigned number)
+{
+    return (uint16_t)(r->near % 2 != 0 ? number + r->ceiling[0] % 8 - 3 : word(r->ceiling));
+}
 
 static void session(struct feed *f, const struct recipe *r, struct shot *s)
 {
     struct buffer *id = &s->in[IN_ID], *keys = &s->in[IN_KEYS], *nodes = &s->in[IN_NODES], *to = &s->in[IN_SESSION];
     uint8_t scheme = s->scheme == DES ? DES : AES;
+    uint16_t number = word(r->own);
 
     to->n = FELICA_SESSION_SIZE;
-    felica_session_new(scheme, word(r->own), id->at, id->n, keys->at, credentials_size(scheme), nodes->at, nodes->n, to->at, to->n);
+    // where none is made
+    memset(to->at, 0, to->n);
+    felica_session_new_with_ceiling(scheme, number, ceiling_of(r, number), id->at, id->n, keys->at, credentials_size(scheme), nodes->at,
+                                    nodes->n, to->at, to->n);
     if (r->room_n % 8 == 1) {
         to->at[r->flip % to->n] ^= next(f);
     }
@@ -189,6 +204,11 @@ static void session(struct feed *f, const struct recipe *r, struct shot *s)
         to->at[0] = FELICA_SESSION_VERSION;
         to->at[1] = (uint8_t)(1 + to->at[1] % 2);
     }
+    // version 1, or its size, or both
+    if (r->room_n % 32 == 3) {
+        to->at[0] = r->flip % 4 == 2 ? FELICA_SESSION_VERSION : FELICA_SESSION_VERSION - 1;
+        to->n = r->flip % 4 == 1 ? FELICA_SESSION_SIZE : 178;
+    }
 }
 
 // ---- all together
@@ -196,7 +216,7 @@ static void session(struct feed *f, const struct recipe *r, struct shot *s)
 // Empty, as large as the answer can be and more, or of any size.
 static size_t room(const struct recipe *r, enum operation op)
 {
-    if (op == MAKE_SESSION && r->room < 0xC0) {
+    if (makes_session(op) && r->room < 0xC0) {
         return FELICA_SESSION_SIZE;
     }
     if (r->room < 0x40) {
@@ -260,6 +280,7 @@ void decode(const uint8_t *bytes, size_t n, struct shot *s)
     s->scheme = mark(r.scheme);
     s->code = r.code;
     s->number = word(r.number);
+    s->ceiling = ceiling_of(&r, s->number);
     s->place = r.place % 4;
     s->room = room(&r, s->op);
     if (s->op == DERIVE || s->op == SEARCH) {

@@ -162,7 +162,7 @@ uint64_t __wrap_felica_derive_secure_session_keys(BLOCK, OUTPUT)
 
 // ---- the session
 
-uint64_t __wrap_felica_session_new(MADE)
+uint64_t __wrap_felica_session_new(uint8_t scheme, uint16_t number, MADE)
 {
     volatile uint8_t read = 0;
 
@@ -170,17 +170,67 @@ uint64_t __wrap_felica_session_new(MADE)
         read = nodes[0];
     }
     (void)read;
-    return __real_felica_session_new(PASS_MADE);
+    return __real_felica_session_new(scheme, number, PASS_MADE);
+}
+
+uint64_t __wrap_felica_session_new_with_ceiling(uint8_t scheme, uint16_t number, uint16_t ceiling, MADE)
+{
+    if (has("ceiling-0-is-none") && ceiling == 0) {
+        ceiling = FELICA_CEILING_NONE;
+    }
+    return __real_felica_session_new_with_ceiling(scheme, number, ceiling, PASS_MADE);
+}
+
+static unsigned number_in(SHOWN)
+{
+    return felica_answer_transaction_number(felica_session_transaction_number(PASS_SESSION));
+}
+
+static unsigned ceiling_in(SHOWN)
+{
+    return felica_answer_ceiling(__real_felica_session_ceiling(PASS_SESSION));
+}
+
+// The ceiling stands from byte 4 on, the count from byte 178 on.
+static void set_word(uint8_t *at, unsigned value)
+{
+    at[0] = (uint8_t)value;
+    at[1] = (uint8_t)(value >> 8);
 }
 
 uint64_t __wrap_felica_session_increment_transaction_number(KEPT)
 {
-    uint64_t answer = __real_felica_session_increment_transaction_number(PASS_SESSION);
+    unsigned number = number_in(PASS_SESSION), ceiling = ceiling_in(PASS_SESSION);
+    uint64_t answer;
 
+    if (has("refuses-one-below-the-ceiling") && ceiling != 0xFFFF && number + 1 == ceiling) {
+        return FELICA_NUMBER_EXHAUSTED;
+    }
+    answer = __real_felica_session_increment_transaction_number(PASS_SESSION);
+    if (has("refuses-one-above-the-ceiling") && answer == FELICA_NUMBER_EXHAUSTED && number == ceiling && number != 0xFFFF) {
+        __real_felica_session_set_transaction_number(session, size, (uint16_t)(number + 1));
+        return (uint64_t)(number + 1) << 32;
+    }
+    if (has("step-resets-the-ceiling") && answer > 255 && ceiling % 256 == number % 256 + 1) {
+        set_word(session + 4, FELICA_CEILING_NONE);
+    }
+    if (has("step-clears-the-count") && answer > 255 && felica_answer_count(felica_session_turned_away(PASS_SESSION)) > 1) {
+        set_word(session + 178, 0);
+    }
     if (has("steps-by-two") && answer > 255 && felica_answer_transaction_number(answer) % 256 == 0) {
         return __real_felica_session_increment_transaction_number(PASS_SESSION);
     }
     return answer;
+}
+
+uint64_t __wrap_felica_session_set_transaction_number(KEPT, uint16_t number)
+{
+    unsigned ceiling = ceiling_in(PASS_SESSION);
+
+    if (has("setting-stops-at-the-ceiling") && number == ceiling + 1) {
+        number = (uint16_t)ceiling;
+    }
+    return __real_felica_session_set_transaction_number(session, size, number);
 }
 
 uint64_t __wrap_felica_session_apply_response(KEPT, EXCHANGED)
@@ -200,10 +250,33 @@ uint64_t __wrap_felica_session_apply_response(KEPT, EXCHANGED)
     if (has("counts-16") && number == 16) {
         __real_felica_session_apply_response(session, size, code, data, 9, out, room);
     }
+    if (has("response-raises-the-ceiling") && answer > 255 && number_in(PASS_SESSION) == ceiling_in(PASS_SESSION) + 1) {
+        set_word(session + 4, number_in(PASS_SESSION));
+    }
+    if (has("counts-where-version-1-did") && number == 13) {
+        set_word(session + 4, session[178] | session[179] << 8);
+        set_word(session + 178, 0);
+    }
     if (has("refusal-sets-the-number") && number == 13) {
         felica_session_set_transaction_number(session, size, 0);
     }
     return has("9-for-15") && number == 15 ? FELICA_NUMBER_EXHAUSTED : answer;
+}
+
+uint64_t __wrap_felica_session_ceiling(SHOWN)
+{
+    uint64_t answer = __real_felica_session_ceiling(PASS_SESSION);
+
+    return has("ceiling-told-as-a-count") && felica_answer_number(answer) == 0 ? answer >> 16 : answer;
+}
+
+// The record as version 1 had it, with the count where the ceiling stands now.
+uint64_t __wrap_felica_session_turned_away(SHOWN)
+{
+    if (has("takes-version-1") && size == 178 && session[0] == 1) {
+        return (uint64_t)(session[4] | session[5] << 8) << 16;
+    }
+    return __real_felica_session_turned_away(PASS_SESSION);
 }
 
 uint64_t __wrap_felica_session_nodes(SHOWN, OUTPUT)

@@ -13,6 +13,7 @@ static struct given given_of(const struct shot *s)
     g.scheme = s->scheme;
     g.code = s->code;
     g.number = s->number;
+    g.ceiling = s->ceiling;
     for (i = 0; i < INPUTS; i++) {
         g.in[i] = text_of(s->in[i].at, s->in[i].n);
     }

@@ -82,7 +82,6 @@ int LLVMFuzzerInitialize(int *argc, char ***argv)
 {
     (void)argc;
     (void)argv;
-    find_fields();
     atexit(print_tally);
     return 0;
 }
@@ -98,7 +97,7 @@ static void fits(const struct result *first)
     count(r.answer);
     if (n != 0) {
         fire(&shot, n - 1, AT_START, 0x3C, &r);
-        check(r.answer == (shot.op == MAKE_SESSION ? FELICA_BAD_MARK_OR_LENGTH : FELICA_OUTPUT_TOO_SMALL), "an output that is too small");
+        check(r.answer == (makes_session(shot.op) ? FELICA_BAD_MARK_OR_LENGTH : FELICA_OUTPUT_TOO_SMALL), "an output that is too small");
         session_after(&shot, &r);
         count(r.answer);
     }

@@ -1,5 +1,5 @@
 // Writes the inputs that the fuzzer starts from: each operation in both schemes, with frames that the library sealed, as recipes and as
-// bytes; and derivations and searches that reach each number.
+// bytes; sessions around their ceilings and of the version before; and derivations and searches that reach each number.
 //
 //     seeds DIR
 #include "recipe.h"
@@ -56,6 +56,7 @@ static struct recipe recipe_of(enum operation op, unsigned scheme, enum source s
     r.length[0] = (uint8_t)length;
     r.length[1] = (uint8_t)(length >> 8);
     r.own[0] = 4;
+    r.ceiling[0] = r.ceiling[1] = 0xFF;
     r.room_n = 100;
     return r;
 }
@@ -125,6 +126,39 @@ static void operation(enum operation op, unsigned scheme)
     plain(r);
     r.scheme = 0xE7;
     plain(r);
+}
+
+// Numbers from four below their ceiling to three above it, and at the ends. A making goes on to a history, which its data spell.
+static void ceilings(enum operation op, unsigned scheme)
+{
+    static const unsigned numbers[] = {4, 0xFF, 0xFFFF};
+    struct recipe r = recipe_of(op, scheme, SEALED, 60);
+    unsigned i, more;
+
+    r.near = 1;
+    for (i = 0; i < sizeof numbers / sizeof numbers[0]; i++) {
+        for (more = 0; more < 8; more++) {
+            unsigned number = makes_session(op) ? numbers[i] : numbers[i] + 1;
+
+            r.number[0] = (uint8_t)number;
+            r.number[1] = (uint8_t)(number >> 8);
+            r.own[0] = (uint8_t)numbers[i];
+            r.own[1] = (uint8_t)(numbers[i] >> 8);
+            r.ceiling[0] = (uint8_t)more;
+            plain(r);
+        }
+    }
+}
+
+// Bytes of version 1, of its size, of both.
+static void old_versions(enum operation op, unsigned scheme)
+{
+    struct recipe r = recipe_of(op, scheme, SEALED, 40);
+
+    r.room_n = 3;
+    for (r.flip = 0; r.flip < 3; r.flip++) {
+        plain(r);
+    }
 }
 
 // The trimmed opening of 16 bytes: each last byte up to 8, with each number of bytes at the end that equal it, up to 8.
@@ -250,6 +284,12 @@ int main(int argc, char **argv)
     for (op = 0; op < OPERATIONS; op++) {
         for (scheme = 1; op != DERIVE && scheme <= 2; scheme++) {
             operation((enum operation)op, scheme);
+            if (family_of((enum operation)op) == family_session) {
+                ceilings((enum operation)op, scheme);
+            }
+            if (takes((enum operation)op, IN_SESSION)) {
+                old_versions((enum operation)op, scheme);
+            }
         }
     }
     trimmings();

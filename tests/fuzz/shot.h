@@ -19,6 +19,8 @@ struct shot {
     uint8_t code;
     // transaction number, or a node
     uint16_t number;
+    // of a session that is made
+    uint16_t ceiling;
     struct buffer in[INPUTS];
     size_t room;
     // where the buffers stand (tests/c/fence.h)
@@ -36,6 +38,8 @@ struct result {
 
 // Makes a call of the fuzzer's bytes (recipe.h): any bytes are one.
 void decode(const uint8_t *bytes, size_t n, struct shot *s);
+// Whether it makes a session, for which the output has to have exactly one size.
+int makes_session(enum operation op);
 
 // ---- fire.c
 
@@ -50,11 +54,14 @@ void inverse(const struct shot *s, const struct result *r);
 
 // ---- sessions.c
 
-// Finds where a session has its number and its count, by what the functions change.
-void find_fields(void);
-// What the call did to its session is what it says.
+// What the call did to its session is what the rules say, and 17 is answered where the bytes are no session, and only there.
 void session_after(const struct shot *s, const struct result *r);
-// A session as it was made, and the inverses of its sealing and opening.
+// A session as it was made, what it tells, and the inverses of its sealing and opening.
 void session_inverse(const struct shot *s, const struct result *r);
+
+// ---- histories.c
+
+// Takes a session that was made through a history, which is read off the data of its making.
+void history(const struct shot *s, const struct result *r);
 
 #endif

@@ -21,7 +21,7 @@ pub enum Refusal {
     DesWithoutArea,
     // DES, no service that bears a key
     DesWithoutKeyedService,
-    // the transaction number is 0xFFFF
+    // the transaction number is at or above the session's ceiling
     NumberExhausted,
     // not a multiple of 8 bytes, or an empty package
     NotWholeBlocks,
@@ -85,7 +85,7 @@ impl fmt::Display for Refusal {
             Refusal::IndividualKeyWithDes => "an individual key with DES",
             Refusal::DesWithoutArea => "DES without an area",
             Refusal::DesWithoutKeyedService => "DES without a service that bears a key",
-            Refusal::NumberExhausted => "the transaction number is 0xFFFF",
+            Refusal::NumberExhausted => "the transaction number is at or above the ceiling",
             Refusal::NotWholeBlocks => "not whole blocks of 8 bytes, or an empty package",
             Refusal::TooShort => "too short",
             Refusal::TooLong => "too long",

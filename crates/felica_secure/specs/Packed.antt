@@ -1,6 +1,6 @@
 -- docs/RULES.md, For C: C callers pass numbers and byte slices only. What they get is one number of 64 bits, laid out here:
 -- bits 0 to 7 are the number of the refusal, 0 for acceptance; 8 to 15 a scheme mark, or the algorithm of a key entry; 16 to 31 a length, an index or
--- a count; 32 to 47 a transaction number, or a node; 48 to 55 the padding of a sealing; the rest is 0. Assumes nothing.
+-- a count; 32 to 47 a transaction number, a ceiling, or a node; 48 to 55 the padding of a sealing; the rest is 0. Assumes nothing.
 use Rattle.std.specs.Prelude.{ℕ, ◌+◌, ◌*◌, ◌/◌, ◌%◌, ◌≡◌, List, length}
 use Rattle.answer.specs.Outcome.{Outcome, over}
 use Rattle.session.specs.Derivation.{Derived}

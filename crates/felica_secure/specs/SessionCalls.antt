@@ -11,7 +11,7 @@ use Rattle.session.specs.declared.context.AuthenticatedContext.{AuthenticatedCon
 
 -- a session as bytes (specs/Record of crate session)
 abbrev pub kept_session : Kept AuthenticatedContext
-kept_session = record { size = 178; encode = encode; decode = decode; is = is_session }
+kept_session = record { size = 180; encode = encode; decode = decode; is = is_session }
 
 unfoldable pub call_step : AuthenticatedContext → Call AuthenticatedContext
 call_step s = record { answer = packed (stepped s).number 0 0 (stepped s).transaction; bytes = []; state = (stepped s).session }
@@ -30,6 +30,9 @@ call_index node s = telling 0 (index s node) 0 s
 
 unfoldable pub call_number : AuthenticatedContext → Call AuthenticatedContext
 call_number s = telling 0 0 s.transaction_number s
+
+unfoldable pub call_ceiling : AuthenticatedContext → Call AuthenticatedContext
+call_ceiling s = telling 0 0 s.ceiling s
 
 unfoldable pub call_count : AuthenticatedContext → Call AuthenticatedContext
 call_count s = telling 0 s.turned_away 0 s

@@ -3,20 +3,20 @@
 ghost use Rattle.std.specs.Prelude.{◌≡◌, true, false, [], length, MatchResult};
 ghost use Rattle.felica_secure.specs.Calls.{Call, Tells, Keeps, MakesKept};
 ghost use Rattle.felica_secure.specs.inner.SessionClosures.{packed_answer, Telling, Keeping};
-ghost use Rattle.felica_secure.specs.SessionCalls.{kept_session, call_step, call_set, call_seal, call_receive, call_index, call_number, call_count, call_scheme, call_id, call_nodes};
+ghost use Rattle.felica_secure.specs.SessionCalls.{kept_session, call_step, call_set, call_seal, call_receive, call_index, call_number, call_ceiling, call_count, call_scheme, call_id, call_nodes};
 ghost use Rattle.session.specs.Record.{encode, decode, is_session};
-ghost use Rattle.session.specs.Session.{make_rows, established};
+ghost use Rattle.session.specs.Session.{make_rows, established, established_under};
 
 use crate::pack;
 use answer::{Accepted, Answer, Refusal, Scheme};
-use session::AuthenticatedContext;
+use session::{AuthenticatedContext, CEILING_NONE};
 
 // The session of these bytes, where they are one: their size, the version, the scheme mark, at most 64 nodes.
 fn load(bytes: &[u8]) -> Result<AuthenticatedContext, Refusal>
     ensures { MatchResult result (λ s. (is_session bytes.now ≡ true) × (s ≡ decode bytes.now)) (λ e. (is_session bytes.now ≡ false) × (e ≡ Refusal.BadMarkOrLength)) }
 {
-    let kept = bytes.as_array::<178>().ok_or(Refusal::BadMarkOrLength)?;
-    let other = kept[0] != 1;
+    let kept = bytes.as_array::<180>().ok_or(Refusal::BadMarkOrLength)?;
+    let other = kept[0] != 2;
     if other {
         return Err(Refusal::BadMarkOrLength);
     }
@@ -29,7 +29,7 @@ fn load(bytes: &[u8]) -> Result<AuthenticatedContext, Refusal>
 
 // Writes a session over its bytes.
 fn store(context: &AuthenticatedContext, bytes: &mut [u8])
-    requires { length bytes.old ≡ 178 }
+    requires { length bytes.old ≡ 180 }
     ensures { (bytes.new ≡ encode context.now) × (decode bytes.new ≡ context.now) }
 {
     bytes.copy_from_slice(&context.encode());
@@ -63,27 +63,35 @@ fn keep<F: FnOnce(&mut AuthenticatedContext, &mut [u8]) -> Answer>(
     answer
 }
 
-// Makes a session over these bytes, which have to be 178. It takes all that C's function takes: one that only writes what C's function made is
-// slower, 249 instructions a call in the place of 237.
+// Makes a session over these bytes, which have to be 180. It takes all that C's functions take: one that only writes what C's function made is
+// slower.
 fn make(
     scheme: u8,
     number: u16,
+    ceiling: u16,
     id: &[u8],
     credentials: &[u8],
     nodes: &[u8],
     session: &mut [u8],
 ) -> Answer
-    ensures { MakesKept kept_session (make_rows scheme (length id.now) (length credentials.now) (length nodes.now)) (established scheme number id.now credentials.now nodes.now) (packed_answer result) session.old session.new }
+    ensures { MakesKept kept_session (make_rows scheme (length id.now) (length credentials.now) (length nodes.now)) (established_under ceiling scheme number id.now credentials.now nodes.now) (packed_answer result) session.old session.new }
 {
-    if session.len() != 178 {
+    if session.len() != 180 {
         return Err(Refusal::BadMarkOrLength);
     }
-    let context = AuthenticatedContext::new(scheme, number, id, credentials, nodes)?;
+    let context = AuthenticatedContext::new_with_ceiling(
+        scheme,
+        number,
+        ceiling,
+        id,
+        credentials,
+        nodes,
+    )?;
     store(&context, session);
-    Ok(Accepted::sized(178))
+    Ok(Accepted::sized(180))
 }
 
-// Makes a session.
+// Makes a session without a ceiling.
 #[unsafe(no_mangle)]
 pub extern "C" fn felica_session_new(
     scheme: u8,
@@ -95,7 +103,31 @@ pub extern "C" fn felica_session_new(
 ) -> u64
     ensures { MakesKept kept_session (make_rows scheme (length id.now) (length credentials.now) (length nodes.now)) (established scheme number id.now credentials.now nodes.now) result session.old session.new }
 {
-    pack::pack(make(scheme, number, id, credentials, nodes, session))
+    pack::pack(make(
+        scheme,
+        number,
+        CEILING_NONE,
+        id,
+        credentials,
+        nodes,
+        session,
+    ))
+}
+
+// Makes one with a ceiling: from there on the number does not step.
+#[unsafe(no_mangle)]
+pub extern "C" fn felica_session_new_with_ceiling(
+    scheme: u8,
+    number: u16,
+    ceiling: u16,
+    id: &[u8],
+    credentials: &[u8],
+    nodes: &[u8],
+    session: &mut [u8],
+) -> u64
+    ensures { MakesKept kept_session (make_rows scheme (length id.now) (length credentials.now) (length nodes.now)) (established_under ceiling scheme number id.now credentials.now nodes.now) result session.old session.new }
+{
+    pack::pack(make(scheme, number, ceiling, id, credentials, nodes, session))
 }
 
 // Steps the number.
@@ -169,6 +201,14 @@ pub extern "C" fn felica_session_transaction_number(session: &[u8]) -> u64
     ensures { Tells kept_session call_number session.now result [] [] }
 {
     pack::pack(load(session).map(|context| Accepted::numbered(context.transaction_number())))
+}
+
+// The session's ceiling.
+#[unsafe(no_mangle)]
+pub extern "C" fn felica_session_ceiling(session: &[u8]) -> u64
+    ensures { Tells kept_session call_ceiling session.now result [] [] }
+{
+    pack::pack(load(session).map(|context| Accepted::numbered(context.ceiling())))
 }
 
 // How many responses were turned away.

@@ -1,5 +1,5 @@
-// The session's corners: its number at both ends of its range, its count of responses turned away at the top, and the order in which a response is
-// refused.
+// The session's corners: its number at both ends of its range and around a ceiling, its count of responses turned away at the top, and the order in
+// which a response is refused.
 ghost use Rattle.std.specs.Prelude.{◌≤◌};
 
 use crate::note::Checks;
@@ -20,6 +20,29 @@ fn begin(checks: &mut Checks, scheme: Scheme, number: u16) -> Option<Authenticat
     let id = b"\x11\x12\x13\x14\x15\x16";
     let made = AuthenticatedContext::new(scheme.mark(), number, id, credentials(scheme), &[]).ok();
     checks.holds(made.is_some());
+    made
+}
+
+// The same with a ceiling.
+fn begin_under(
+    checks: &mut Checks,
+    scheme: Scheme,
+    number: u16,
+    ceiling: u16,
+) -> Option<AuthenticatedContext> {
+    let id = b"\x11\x12\x13\x14\x15\x16";
+    let credentials = credentials(scheme);
+    let made = AuthenticatedContext::new_with_ceiling(
+        scheme.mark(),
+        number,
+        ceiling,
+        id,
+        credentials,
+        &[],
+    ).ok();
+    checks.holds(made.is_some_and(|context| {
+        context.ceiling() == ceiling && is_left(context, number, 0)
+    }));
     made
 }
 
@@ -68,6 +91,75 @@ pub(crate) fn stepping(checks: &mut Checks) {
         let stepped = context.increment_transaction_number();
         checks.holds(stepped == wanted && is_left(context, number, 0));
     }
+}
+
+// The step under a ceiling: the session's number and its ceiling, and the number after the step. Where there is none the step is refused, and all
+// bytes of the session are as they were.
+pub(crate) fn ceilings(checks: &mut Checks) {
+    let steps = [
+        (4, 5, Some(5)),
+        (5, 5, None),
+        (6, 5, None),
+        (0, 0, None),
+        (65534, 65535, Some(65535)),
+        (65535, 65535, None),
+    ];
+    for (number, ceiling, next) in steps {
+        let Some(mut context) = begin_under(checks, Scheme::Des, number, ceiling) else {
+            return;
+        };
+        let before = context.encode();
+        let stepped = context.increment_transaction_number();
+        checks.holds(match next {
+            Some(next) => {
+                stepped == Ok(Accepted::numbered(next))
+                    && is_left(context, next, 0)
+                    && context.ceiling() == ceiling
+            }
+            None => stepped == Err(Refusal::NumberExhausted) && context.encode() == before,
+        });
+    }
+}
+
+// Under a ceiling of 5, in one scheme, where a sealed response has N bytes: a response goes past the ceiling, after which no step is taken until
+// the number is set below it; setting goes past it too.
+pub(crate) fn past<const N: usize>(checks: &mut Checks, scheme: Scheme)
+    requires { N ≤ 64 }
+{
+    let Some(mut context) = begin_under(checks, scheme, 4, 5) else {
+        return;
+    };
+    for number in [6, 65535] {
+        checks.holds(sealed::<N>(scheme, sent(0x16, number)).is_some_and(|sealed| receive(
+            &mut context,
+            &sealed,
+            8,
+            leaves(None, number, 0),
+        )));
+        let before = context.encode();
+        let stepped = context.increment_transaction_number();
+        checks.holds(stepped == Err(Refusal::NumberExhausted) && context.encode() == before);
+    }
+    for (number, next) in [(9, None), (5, None), (4, Some(5))] {
+        context.set_transaction_number(number);
+        let stepped = context.increment_transaction_number();
+        checks.holds(stepped == next.map(Accepted::numbered).ok_or(Refusal::NumberExhausted));
+        checks.holds(is_left(context, next.unwrap_or(number), 0) && context.ceiling() == 5);
+    }
+}
+
+// 65,535 steps from 0 on, without a ceiling, and the one that is refused.
+pub(crate) fn all_steps(checks: &mut Checks) {
+    let Some(mut context) = begin(checks, Scheme::Aes128, 0) else {
+        return;
+    };
+    for i in 1..65536u32 {
+        let next = u16::try_from(i).unwrap_or(u16::MAX);
+        let stepped = context.increment_transaction_number();
+        checks.holds(stepped == Ok(Accepted::numbered(next)) && is_left(context, next, 0));
+    }
+    let refused = context.increment_transaction_number();
+    checks.holds(refused == Err(Refusal::NumberExhausted) && is_left(context, 65535, 0));
 }
 
 // What a response is sealed with: the last byte of the ID (0x16 is the session's), and the number.

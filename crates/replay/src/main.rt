@@ -72,6 +72,12 @@ fn own_runs<R: Print + AllocGlobal>(rt: &R) -> io::Result<Tally> {
     corners::stepping(&mut steps);
     corners::responses::<24>(&mut steps, Scheme::Des);
     corners::responses::<18>(&mut steps, Scheme::Aes128);
+    let mut under = Checks::new(rt.alloc());
+    corners::ceilings(&mut under);
+    corners::past::<24>(&mut under, Scheme::Des);
+    corners::past::<18>(&mut under, Scheme::Aes128);
+    let mut steady = Checks::new(rt.alloc());
+    corners::all_steps(&mut steady);
     let mut ends = Checks::new(rt.alloc());
     ends::with_des(&mut ends, 1);
     ends::with_aes(&mut ends, 2);
@@ -86,6 +92,16 @@ fn own_runs<R: Print + AllocGlobal>(rt: &R) -> io::Result<Tally> {
         rt,
         "the session's corners",
         "# Session: number and response steps at their corners\n",
+    )?;
+    all += under.print(
+        rt,
+        "the session's corners",
+        "# Session: number and response steps under a ceiling\n",
+    )?;
+    all += steady.print(
+        rt,
+        "the session's corners",
+        "# Session: 65,535 number steps\n",
     )?;
     all += ends.print(
         rt,

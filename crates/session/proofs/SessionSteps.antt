@@ -6,7 +6,7 @@ use mathlib.Core.Logic.{◌⊎◌, inl, inr, ⊎_elim}
 use Prim.Native.Nat.{ℕ, zero, suc, ◌+◌, ◌-◌, ◌%◌, ◌≤◌, ◌<◌, min}
 use native.Mathlib.Nat.{sub-zero, min-eq_left, min-eq_right}
 use native.Mathlib.Omega.{arith}
-use borrow.Author.Tests.{eq-eqb, ne_eqb, lt-ltb, le-ltb, eqb-true, eqb-false}
+use borrow.Author.Tests.{eq-eqb, ne_eqb, lt-ltb, le-ltb}
 use lib.Dec.{eqb, lit≤}
 use lib.ListN.{length, take, drop, replicate, length-replicate}
 use lib.Seq.{take_all}
@@ -32,19 +32,25 @@ use Rattle.session.specs.declared.context.AuthenticatedContext.{AuthenticatedCon
 -- ---- the number step
 
 module _ (s : AuthenticatedContext) where
-  pub stepped_full : s.transaction_number ≡ 0xFFFF → stepped s ≡ record { number = 9; transaction = 0; session = s }
-  unfolding stepped choose
-  stepped_full e = rw (eq-eqb _ _ e)
+  abbrev step_full : Step
+  step_full = record { number = 9; transaction = 0; session = s }
 
-  pub stepped_on : s.transaction_number ≢ 0xFFFF → stepped s ≡ record { number = 0; transaction = s.transaction_number + 1; session = with_number (s.transaction_number + 1) s }
-  unfolding stepped choose
-  stepped_on h = rw (ne_eqb _ _ h)
+  abbrev step_on : Step
+  step_on = record { number = 0; transaction = s.transaction_number + 1; session = with_number (s.transaction_number + 1) s }
+
+  pub stepped_full : s.ceiling ≤ s.transaction_number → stepped s ≡ step_full
+  unfolding stepped choose isnt
+  stepped_full h = ap (λ (t : Bool). choose (isnt t) step_full step_on) (le-ltb s.transaction_number s.ceiling h)
+
+  pub stepped_on : s.transaction_number < s.ceiling → stepped s ≡ step_on
+  unfolding stepped choose isnt
+  stepped_on h = ap (λ (t : Bool). choose (isnt t) step_full step_on) (lt-ltb s.transaction_number s.ceiling h)
 
   -- by value
-  pub step_refused : s.transaction_number ≡ 0xFFFF → StepsTo s (Err NumberExhausted)
-  step_refused e = (ap (λ (x : Step). x.number) (stepped_full e), ap (λ (x : Step). x.session) (stepped_full e))
+  pub step_refused : s.ceiling ≤ s.transaction_number → StepsTo s (Err NumberExhausted)
+  step_refused h = (ap (λ (x : Step). x.number) (stepped_full h), ap (λ (x : Step). x.session) (stepped_full h))
 
-  pub step_taken : s.transaction_number ≢ 0xFFFF → StepsTo s (Ok (with_number (s.transaction_number + 1) s))
+  pub step_taken : s.transaction_number < s.ceiling → StepsTo s (Ok (with_number (s.transaction_number + 1) s))
   step_taken h = (ap (λ (x : Step). x.number) (stepped_on h), sym (ap (λ (x : Step). x.session) (stepped_on h)))
 
   -- on the session that is lent
@@ -59,25 +65,26 @@ module _ (s : AuthenticatedContext) where
       }
 
   pub steps_refused : (e : Refusal) → StepsTo s (Err e) → {r : Answer} → r ≡ Err e → Steps s r s
-  steps_refused e h q = rw q (go (eqb s.transaction_number 0xFFFF) refl)
-    where
-      go : (b : Bool) → eqb s.transaction_number 0xFFFF ≡ b → Steps s (Err e) s
-      go true q = let f = stepped_full (eqb-true _ _ q) in steps_as _ (Err e) s f (sym h.0 ∙ ap (λ (x : Step). x.number) f, refl, refl, refl) refl
-      go false q =
-          let z : 0 ≡ refusal_number e = sym (ap (λ (x : Step). x.number) (stepped_on (eqb-false _ _ q))) ∙ h.0 in
-          absurd (refusal_some e (sym z))
+  steps_refused e h q =
+      rw q
+      (⊎_elim
+      (λ (l : s.ceiling ≤ s.transaction_number). let f = stepped_full l in steps_as _ (Err e) s f (sym h.0 ∙ ap (λ (x : Step). x.number) f, refl, refl, refl) refl)
+      (λ (l : s.transaction_number < s.ceiling).
+      let z : 0 ≡ refusal_number e = sym (ap (λ (x : Step). x.number) (stepped_on l)) ∙ h.0 in
+      absurd (refusal_some e (sym z)))
+      (le_or_lt s.ceiling s.transaction_number))
 
   pub steps_taken : (a : Accepted) (t u : AuthenticatedContext) → StepsTo s (Ok t) → u ≡ with_number t.transaction_number s
       → (a.length ≡ 0) × (a.transaction_number ≡ t.transaction_number) × (a.padding ≡ 0) → Steps s (Ok a) u
   unfolding with_number
-  steps_taken a t u h e k = go (eqb s.transaction_number 0xFFFF) refl
-    where
-      go : (b : Bool) → eqb s.transaction_number 0xFFFF ≡ b → Steps s (Ok a) u
-      go true q = let z : 9 ≡ 0 = sym (ap (λ (x : Step). x.number) (stepped_full (eqb-true _ _ q))) ∙ h.0 in absurd (omega (arith, z))
-      go false q =
-          let f = stepped_on (eqb-false _ _ q) in
-          let n = ap (λ (x : AuthenticatedContext). x.transaction_number) (h.1 ∙ ap (λ (x : Step). x.session) f) in
-          steps_as _ (Ok a) u f (refl, k.0, k.1 ∙ n, k.2) (e ∙ ap (λ (m : ℕ). with_number m s) n)
+  steps_taken a t u h e k =
+      ⊎_elim
+      (λ (l : s.ceiling ≤ s.transaction_number). let z : 9 ≡ 0 = sym (ap (λ (x : Step). x.number) (stepped_full l)) ∙ h.0 in absurd (omega (arith, z)))
+      (λ (l : s.transaction_number < s.ceiling).
+      let f = stepped_on l in
+      let n = ap (λ (x : AuthenticatedContext). x.transaction_number) (h.1 ∙ ap (λ (x : Step). x.session) f) in
+      steps_as _ (Ok a) u f (refl, k.0, k.1 ∙ n, k.2) (e ∙ ap (λ (m : ℕ). with_number m s) n))
+      (le_or_lt s.ceiling s.transaction_number)
 
 -- ---- the count
 
@@ -187,9 +194,9 @@ pub make_numbers : (scheme id credentials listed : ℕ) → numbered (make_rows 
 unfolding make_rows numbered both
 make_numbers scheme id credentials listed = refl
 
-pub made_refused : (scheme number : ℕ) (id credentials nodes : List ℕ) (e : Refusal) {r : Result AuthenticatedContext Refusal} → r ≡ Err e
-    → first_of (make_rows scheme (length id) (length credentials) (length nodes)) ≡ refusal_number e → Makes scheme number id credentials nodes r
-made_refused scheme number id credentials nodes e {r} q h = rw q h
+pub made_refused : (ceiling scheme number : ℕ) (id credentials nodes : List ℕ) (e : Refusal) {r : Result AuthenticatedContext Refusal} → r ≡ Err e
+    → first_of (make_rows scheme (length id) (length credentials) (length nodes)) ≡ refusal_number e → Makes ceiling scheme number id credentials nodes r
+made_refused ceiling scheme number id credentials nodes e {r} q h = rw q h
 
 -- ---- the response step
 

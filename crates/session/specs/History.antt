@@ -1,6 +1,6 @@
 -- docs/RULES.md, Carried and added (the turned-away count) and Corners (mod.rs): what happens to a session from its making on, which is number
 -- steps, settings of the number, responses. Assumes nothing.
-use Rattle.std.specs.Prelude.{ℕ, zero, suc, ◌+◌, List, [], ◌∷◌, ltb}
+use Rattle.std.specs.Prelude.{ℕ, zero, suc, ◌+◌, ◌≡◌, ◌≤◌, List, [], ◌∷◌, ltb}
 use Rattle.answer.specs.Outcome.{choose}
 use Rattle.answer.specs.Tests.{both}
 use Rattle.session.specs.Session.{with_number, stepped, receiving, received}
@@ -22,6 +22,13 @@ next s (response code d room) = received s (receiving s code d room)
 unfoldable pub after : AuthenticatedContext → List Event → AuthenticatedContext
 after s [] = s
 after s (e ∷ es) = after (next s e) es
+
+-- no setting among the events goes below c
+unfoldable pub NoneBelow : ℕ → List Event → Type 0
+NoneBelow c [] = c ≡ c
+NoneBelow c (step ∷ es) = NoneBelow c es
+NoneBelow c (setting n ∷ es) = (c ≤ n) × NoneBelow c es
+NoneBelow c (response code d room ∷ es) = NoneBelow c es
 
 -- 1 for a response step that gave 10 to 15, else 0
 unfoldable pub refusal : AuthenticatedContext → Event → ℕ

@@ -5,8 +5,8 @@ use Rattle.answer.specs.Tests.{either, both}
 use Rattle.session.specs.declared.context.AuthenticatedContext.{AuthenticatedContext}
 
 -- a session of its parts
-unfoldable pub context_of : ℕ → ℕ → ℕ → ℕ → List ℕ → List ℕ → List ℕ → AuthenticatedContext
-context_of scheme number turned listed id credentials nodes =
+unfoldable pub context_of : ℕ → ℕ → ℕ → ℕ → List ℕ → List ℕ → List ℕ → ℕ → AuthenticatedContext
+context_of scheme number ceiling listed id credentials nodes turned =
     record {
       transaction_number = number;
       transaction_id = id;
@@ -15,20 +15,22 @@ context_of scheme number turned listed id credentials nodes =
       nodes = nodes;
       node_count = listed;
       turned_away = turned;
+      ceiling = ceiling;
     }
 
--- ---- the layout, 178 bytes: version 1, scheme mark 1, transaction number 2, turned-away count 2, number of nodes 2, transaction ID 6,
--- credentials 36, nodes 128. Numbers have their low byte first. The version of this layout is 1.
+-- ---- the layout, 180 bytes: the version (1 byte, with the value 2), scheme mark (1), transaction number (2), ceiling (2), number of nodes (2),
+-- transaction ID (6), credentials (36), nodes (128), turned-away count (2). Numbers have their low byte first.
 
 unfoldable pub encode : AuthenticatedContext → List ℕ
 encode s =
-    (1 ∷ s.scheme ∷ [])
+    (2 ∷ s.scheme ∷ [])
     ++ number_bytes s.transaction_number
-    ++ number_bytes s.turned_away
+    ++ number_bytes s.ceiling
     ++ number_bytes s.node_count
     ++ s.transaction_id
     ++ s.credentials
     ++ s.nodes
+    ++ number_bytes s.turned_away
 
 unfoldable pub decode : List ℕ → AuthenticatedContext
 decode b =
@@ -39,9 +41,10 @@ decode b =
       credentials = take 36 (drop 14 b);
       nodes = take 128 (drop 50 b);
       node_count = number_of (drop 6 b);
-      turned_away = number_of (drop 4 b);
+      turned_away = number_of (drop 178 b);
+      ceiling = number_of (drop 4 b);
     }
 
 -- the exact size, the version, a mark that is known, at most 64 nodes
 unfoldable pub is_session : List ℕ → Bool
-is_session b = both (eqb (length b) 178) (both (eqb (get_or b 0 0) 1) (both (either (eqb (get_or b 1 0) 1) (eqb (get_or b 1 0) 2)) (ltb (number_of (drop 6 b)) 65)))
+is_session b = both (eqb (length b) 180) (both (eqb (get_or b 0 0) 2) (both (either (eqb (get_or b 1 0) 1) (eqb (get_or b 1 0) 2)) (ltb (number_of (drop 6 b)) 65)))

@@ -1,5 +1,5 @@
--- docs/RULES.md, Corners (mod.rs), Carried and added: the session, which is its number, transaction ID, scheme, credentials, nodes, and how many
--- responses were turned away; its number step, node index and response step. Assumes nothing.
+-- docs/RULES.md, Corners (mod.rs), Carried and added: the session, which is its number, ceiling, transaction ID, scheme, credentials, nodes, and how
+-- many responses were turned away; its number step, node index and response step. Assumes nothing.
 use Rattle.std.specs.Prelude.{ℕ, suc, ◌+◌, ◌-◌, ◌*◌, ◌/◌, ◌%◌, ◌≡◌, List, [], ◌∷◌, ◌++◌, eqb, ltb, length, take, replicate, Result, MatchResult}
 use Rattle.answer.specs.declared.refusal.Refusal.{Refusal}
 use Rattle.answer.specs.Refusal.{refusal_number}
@@ -28,8 +28,9 @@ make_rows scheme id credentials listed =
 unfoldable pub filled : ℕ → List ℕ → List ℕ
 filled n l = l ++ replicate (n - length l) 0
 
-unfoldable pub established : ℕ → ℕ → List ℕ → List ℕ → List ℕ → AuthenticatedContext
-established scheme number id credentials listed =
+-- a session with a ceiling
+unfoldable pub established_under : ℕ → ℕ → ℕ → List ℕ → List ℕ → List ℕ → AuthenticatedContext
+established_under ceiling scheme number id credentials listed =
     record {
       transaction_number = number;
       transaction_id = id;
@@ -38,13 +39,21 @@ established scheme number id credentials listed =
       nodes = filled 128 listed;
       node_count = length listed / 2;
       turned_away = 0;
+      ceiling = ceiling;
     }
 
+-- one that is made without a ceiling has this: no number of 16 bits is above it
+abbrev pub no_ceiling : ℕ
+no_ceiling = 0xFFFF
+
+abbrev pub established : ℕ → ℕ → List ℕ → List ℕ → List ℕ → AuthenticatedContext
+established scheme number id credentials listed = established_under no_ceiling scheme number id credentials listed
+
 -- a session, or the refusal of the first row that holds
-abbrev pub Makes : ℕ → ℕ → List ℕ → List ℕ → List ℕ → Result AuthenticatedContext Refusal → Type 0
-Makes scheme number id credentials nodes r =
+abbrev pub Makes : ℕ → ℕ → ℕ → List ℕ → List ℕ → List ℕ → Result AuthenticatedContext Refusal → Type 0
+Makes ceiling scheme number id credentials nodes r =
     MatchResult r
-    (λ s. (first_of (make_rows scheme (length id) (length credentials) (length nodes)) ≡ 0) × (s ≡ established scheme number id credentials nodes))
+    (λ s. (first_of (make_rows scheme (length id) (length credentials) (length nodes)) ≡ 0) × (s ≡ established_under ceiling scheme number id credentials nodes))
     (λ e. first_of (make_rows scheme (length id) (length credentials) (length nodes)) ≡ refusal_number e)
 
 -- ---- its parts
@@ -60,6 +69,7 @@ with_number n s =
       nodes = s.nodes;
       node_count = s.node_count;
       turned_away = s.turned_away;
+      ceiling = s.ceiling;
     }
 
 -- the session with another count of responses turned away, and all else as it is
@@ -73,6 +83,7 @@ with_count n s =
       nodes = s.nodes;
       node_count = s.node_count;
       turned_away = n;
+      ceiling = s.ceiling;
     }
 
 -- a node's index is its first place, from 0
@@ -91,7 +102,7 @@ index_in listed node = choose (ltb (first_place listed node) (length listed)) (f
 unfoldable pub index : AuthenticatedContext → ℕ → ℕ
 index s node = index_in (nodes (take (listed_count s.node_count * 2) s.nodes)) node
 
--- ---- the number step: at 0xFFFF it refuses
+-- ---- the number step: at or above the ceiling it refuses
 
 -- a step's answer, and the session after it
 pub record Step : Type 0 where
@@ -101,7 +112,7 @@ pub record Step : Type 0 where
 
 unfoldable pub stepped : AuthenticatedContext → Step
 stepped s =
-    choose (eqb s.transaction_number 0xFFFF)
+    choose (isnt (ltb s.transaction_number s.ceiling))
     (record { number = 9; transaction = 0; session = s })
     (record { number = 0; transaction = s.transaction_number + 1; session = with_number (s.transaction_number + 1) s })
 

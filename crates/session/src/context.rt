@@ -2,7 +2,7 @@
 ghost use Rattle.std.specs.Prelude.{◌≡◌, ◌*◌, ◌<◌, ◌≤◌, length, take, MatchOption};
 ghost use Rattle.answer.specs.Outcome.{Meets};
 ghost use Rattle.answer.specs.Refusal.{refusal_number};
-ghost use Rattle.session.specs.Session.{Makes, with_number, StepsTo, Steps, counting, listed_count, first_place, index, Receives, receiving, credentials_size, credentials_of};
+ghost use Rattle.session.specs.Session.{no_ceiling, Makes, with_number, StepsTo, Steps, counting, listed_count, first_place, index, Receives, receiving, credentials_size, credentials_of};
 ghost use Rattle.frame.specs.Scheme.{sealing, opening};
 ghost use Rattle.session.specs.Entries.{nodes as node_list};
 ghost use Rattle.session.specs.Record.{encode, decode};
@@ -11,11 +11,14 @@ use answer::{Accepted, Answer, Refusal, Scheme};
 
 const NODES_MAX: u16 = 64;
 
+// The ceiling of a session that is made without one: no number of 16 bits is above it.
+pub const CEILING_NONE: u16 = 0xFFFF;
+
 // The first byte of a session's bytes.
-const VERSION: u8 = 1;
+const VERSION: u8 = 2;
 
 // nodes has node_count nodes of two bytes each, the low byte first. A DES session key is the first 8 bytes of credentials. A mark that is a number,
-// arrays that hold the most and a count beside them: any 178 bytes decode to a session, and nothing allocates.
+// arrays that hold the most and a count beside them: any 180 bytes decode to a session, and nothing allocates.
 #[derive(Clone, Copy)]
 pub struct AuthenticatedContext {
     transaction_number: u16,
@@ -25,6 +28,7 @@ pub struct AuthenticatedContext {
     nodes: [u8; 128],
     node_count: u16,
     turned_away: u16,
+    ceiling: u16,
 }
 
 // How many bytes of credentials a scheme has.
@@ -35,7 +39,7 @@ fn credentials_size(scheme: u8) -> usize
 }
 
 impl AuthenticatedContext {
-    // Makes a session with its number, its transaction ID, its credentials and at most 64 nodes.
+    // Makes a session with its number, its transaction ID, its credentials and at most 64 nodes. Its ceiling is 0xFFFF.
     pub fn new(
         scheme: u8,
         number: u16,
@@ -43,7 +47,21 @@ impl AuthenticatedContext {
         credentials: &[u8],
         nodes: &[u8],
     ) -> Result<AuthenticatedContext, Refusal>
-        ensures { Makes scheme number id.now credentials.now nodes.now result }
+        ensures { Makes no_ceiling scheme number id.now credentials.now nodes.now result }
+    {
+        AuthenticatedContext::new_with_ceiling(scheme, number, CEILING_NONE, id, credentials, nodes)
+    }
+
+    // Makes one with a ceiling: from there on the number does not step. It may start at or above it.
+    pub fn new_with_ceiling(
+        scheme: u8,
+        number: u16,
+        ceiling: u16,
+        id: &[u8],
+        credentials: &[u8],
+        nodes: &[u8],
+    ) -> Result<AuthenticatedContext, Refusal>
+        ensures { Makes ceiling scheme number id.now credentials.now nodes.now result }
     {
         Scheme::try_from(scheme)?;
         let id = answer::exact::<6>(id)?;
@@ -61,6 +79,7 @@ impl AuthenticatedContext {
             nodes: answer::fit(nodes),
             node_count: (nodes.len() / 2) as u16,
             turned_away: 0,
+            ceiling,
         })
     }
 
@@ -98,6 +117,12 @@ impl AuthenticatedContext {
         ensures { result ≡ self.now.turned_away }
     {
         self.turned_away
+    }
+
+    pub fn ceiling(&self) -> u16
+        ensures { result ≡ self.now.ceiling }
+    {
+        self.ceiling
     }
 
     // How many nodes are listed: at most 64. A count over 64 cannot arise from a session that was made, or decoded from bytes that are a session;
@@ -153,15 +178,15 @@ impl AuthenticatedContext {
         self.transaction_number = value;
     }
 
-    // The number step by value.
+    // The number step by value. At or above the ceiling it is refused.
     pub fn step(self) -> Result<AuthenticatedContext, Refusal>
         ensures { StepsTo self result }
     {
-        let next = self
-            .transaction_number
-            .checked_add(1)
-            .ok_or(Refusal::NumberExhausted)?;
-        Ok(self.with_transaction_number(next))
+        let ceiling = self.ceiling;
+        if ceiling <= self.transaction_number {
+            return Err(Refusal::NumberExhausted);
+        }
+        Ok(self.with_transaction_number(self.transaction_number + 1))
     }
 
     // The next number, before a command is sealed. A refusal leaves the session as it was.
@@ -258,33 +283,35 @@ impl AuthenticatedContext {
     }
 
     // The session as bytes that a caller keeps.
-    pub fn encode(self) -> [u8; 178]
+    pub fn encode(self) -> [u8; 180]
         ensures { (result ≡ encode self) × (decode result ≡ self) }
     {
         let [n0, n1] = self.transaction_number.to_le_bytes();
-        let [t0, t1] = self.turned_away.to_le_bytes();
+        let [m0, m1] = self.ceiling.to_le_bytes();
         let [c0, c1] = self.node_count.to_le_bytes();
-        let mut bytes = [0u8; 178];
-        bytes[..8].copy_from_slice(&[VERSION, self.scheme, n0, n1, t0, t1, c0, c1]);
+        let mut bytes = [0u8; 180];
+        bytes[..8].copy_from_slice(&[VERSION, self.scheme, n0, n1, m0, m1, c0, c1]);
         bytes[8..14].copy_from_slice(&self.transaction_id);
         bytes[14..50].copy_from_slice(&self.credentials);
-        bytes[50..].copy_from_slice(&self.nodes);
+        bytes[50..178].copy_from_slice(&self.nodes);
+        bytes[178..].copy_from_slice(&self.turned_away.to_le_bytes());
         bytes
     }
 
     // The session that a caller kept as bytes.
-    pub fn decode(bytes: [u8; 178]) -> AuthenticatedContext
+    pub fn decode(bytes: [u8; 180]) -> AuthenticatedContext
         ensures { result ≡ decode bytes }
     {
-        let [_, scheme, n0, n1, t0, t1, c0, c1, ..] = bytes;
+        let [_, scheme, n0, n1, m0, m1, c0, c1, .., t0, t1] = bytes;
         AuthenticatedContext {
             transaction_number: u16::from_le_bytes([n0, n1]),
             transaction_id: answer::fit(&bytes[8..14]),
             scheme,
             credentials: answer::fit(&bytes[14..50]),
-            nodes: answer::fit(&bytes[50..]),
+            nodes: answer::fit(&bytes[50..178]),
             node_count: u16::from_le_bytes([c0, c1]),
             turned_away: u16::from_le_bytes([t0, t1]),
+            ceiling: u16::from_le_bytes([m0, m1]),
         }
     }
 }

@@ -14,7 +14,7 @@ pub use challenge::{
     encrypt_challenge1b, encrypt_challenge2a, encrypt_challenge2b, verify_challenge1b,
     verify_challenge2b,
 };
-pub use context::AuthenticatedContext;
+pub use context::{AuthenticatedContext, CEILING_NONE};
 pub use des::AuthenticationContext;
 pub use keys::{DerivedAuthKeys, Found, derive_auth_keys, search_key};
 pub use types::is_key_free_service;

@@ -34,7 +34,7 @@ returns-in_err-kept c =
 pub returns-then-other : goal.returns-then-other
 returns-then-other c =
     let k = rw c.in_ok-kept.ensures.ok_part at c.as_array.ensures.cases in
-    let v : get_or c.args.bytes.now 0 0 ≡ 1 → ⊥ = rw k.same at c.if-other.true in
+    let v : get_or c.args.bytes.now 0 0 ≡ 2 → ⊥ = rw k.same at c.if-other.true in
     (sym (other_version _ k.long v), refl)
 
 pub returns-in_err-try_from : goal.returns-in_err-try_from

@@ -1,21 +1,21 @@
 use mathlib.Core.Path.{sym, ◌∙◌}
 use borrow.Author.Rules.{rules}
 use native.Mathlib.Omega.{arith}
-use Rattle.session.specs.Session.{established}
+use Rattle.session.specs.Session.{established_under}
 use Rattle.session.proofs.SessionSteps.{credentials_most, filled_is, unknown_mark, known_mark, wrong_id, wrong_credentials, half_node, too_many_nodes, no_row, made_refused}
-use Rattle.session.proofs.context.AuthenticatedContext.new.Goals as goal
-use Rattle.session.proofs.context.AuthenticatedContext.new.Goals.{then-credentials-credentials_size-via-then-credentials-credentials_size, then-credentials-credentials_size-via-else-credentials-credentials_size+then-nodes-ne0}
+use Rattle.session.proofs.context.AuthenticatedContext.new_with_ceiling.Goals as goal
+use Rattle.session.proofs.context.AuthenticatedContext.new_with_ceiling.Goals.{then-credentials-credentials_size-via-then-credentials-credentials_size, then-credentials-credentials_size-via-else-credentials-credentials_size+then-nodes-ne0}
 
 pub returns-in_err-try_from : goal.returns-in_err-try_from
 returns-in_err-try_from c =
     let a = c.args in
-    made_refused a.scheme a.number a.id.now a.credentials.now a.nodes.now c.in_err-try_from.field-0.0 (search rules)
+    made_refused a.ceiling a.scheme a.number a.id.now a.credentials.now a.nodes.now c.in_err-try_from.field-0.0 (search rules)
     (unknown_mark _ _ _ _ c.in_err-try_from.field-0.0 c.in_err-try_from.ensures)
 
 pub returns-in_err-id : goal.returns-in_err-id
 returns-in_err-id c =
     let a = c.args in
-    made_refused a.scheme a.number a.id.now a.credentials.now a.nodes.now c.in_err-id.field-0.0 (search rules)
+    made_refused a.ceiling a.scheme a.number a.id.now a.credentials.now a.nodes.now c.in_err-id.field-0.0 (search rules)
     (wrong_id _ _ _ _ c.in_err-id.field-0.0 c.in_err-id.ensures)
 
 pub returns-then-credentials-credentials_size : goal.returns-then-credentials-credentials_size
@@ -30,7 +30,7 @@ returns-then-nodes-gt128 c =
     too_many_nodes c.args.scheme _ _ _ (known_mark _ _ c.in_ok-try_from.ensures) c.in_ok-id.ensures.0 (c.if-credentials-credentials_size.false ∙ c.credentials_size.ensures) c.if-nodes-ne0.false c.if-nodes-gt128.true
 
 pub returns : goal.returns
-unfolding established
+unfolding established_under
 returns c =
     let a = c.args in
     let size = c.if-credentials-credentials_size.false ∙ c.credentials_size.ensures in
