@@ -89,12 +89,12 @@ module _ (scheme number ceiling listed turned : ℕ) (id credentials nodes : Lis
   unfolding encode decode context_of
   decode_encode hn hc hl ht =
       let t : List ℕ = number_bytes turned in
-      let e3 : id ++ credentials ++ nodes ++ t ≡ id ++ (credentials ++ (nodes ++ t)) = append_assoc (id ++ credentials) nodes t ∙ append_assoc id credentials (nodes ++ t) in
+      let e2 : id ++ credentials ++ nodes ++ t ≡ id ++ credentials ++ (nodes ++ t) = append_assoc (id ++ credentials) nodes t in
+      let e3 : id ++ credentials ++ nodes ++ t ≡ id ++ (credentials ++ (nodes ++ t)) = e2 ∙ append_assoc id credentials (nodes ++ t) in
       let a : take 6 (id ++ credentials ++ nodes ++ t) ≡ id = ap (take 6) e3 ∙ take_at id (credentials ++ (nodes ++ t)) 6 i in
       let b : drop 6 (id ++ credentials ++ nodes ++ t) ≡ credentials ++ (nodes ++ t) = ap (drop 6) e3 ∙ drop_at id (credentials ++ (nodes ++ t)) 6 i in
       let c : take 36 (drop 6 (id ++ credentials ++ nodes ++ t)) ≡ credentials = ap (take 36) b ∙ take_at credentials (nodes ++ t) 36 k in
       let m : length (id ++ credentials) ≡ 42 = length-append id credentials ∙ omega arith in
-      let e2 : id ++ credentials ++ nodes ++ t ≡ id ++ credentials ++ (nodes ++ t) = append_assoc (id ++ credentials) nodes t in
       let d : take 128 (drop 42 (id ++ credentials ++ nodes ++ t)) ≡ nodes = ap (λ (x : List ℕ). take 128 (drop 42 x)) e2 ∙ ap (take 128) (drop_at (id ++ credentials) (nodes ++ t) 42 m) ∙ take_at nodes t 128 l in
       let n : length (id ++ credentials ++ nodes) ≡ 170 = length-append (id ++ credentials) nodes ∙ omega (arith, m) in
       let f : drop 170 (id ++ credentials ++ nodes ++ t) ≡ t = drop_at (id ++ credentials ++ nodes) t 170 n in

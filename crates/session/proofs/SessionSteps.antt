@@ -31,6 +31,15 @@ use Rattle.session.specs.declared.context.AuthenticatedContext.{AuthenticatedCon
 
 -- ---- the number step
 
+-- a choice by a test whose outcome is known
+chosen_first : (t : Bool) (a b : Step) → t ≡ true → choose t a b ≡ a
+unfolding choose
+chosen_first t a b e = rw e
+
+chosen_second : (t : Bool) (a b : Step) → t ≡ false → choose t a b ≡ b
+unfolding choose
+chosen_second t a b e = rw e
+
 module _ (s : AuthenticatedContext) where
   abbrev step_full : Step
   step_full = record { number = 9; transaction = 0; session = s }
@@ -39,12 +48,12 @@ module _ (s : AuthenticatedContext) where
   step_on = record { number = 0; transaction = s.transaction_number + 1; session = with_number (s.transaction_number + 1) s }
 
   pub stepped_full : s.ceiling ≤ s.transaction_number → stepped s ≡ step_full
-  unfolding stepped choose isnt
-  stepped_full h = ap (λ (t : Bool). choose (isnt t) step_full step_on) (le-ltb s.transaction_number s.ceiling h)
+  unfolding stepped isnt
+  stepped_full h = chosen_first _ step_full step_on (ap isnt (le-ltb s.transaction_number s.ceiling h))
 
   pub stepped_on : s.transaction_number < s.ceiling → stepped s ≡ step_on
-  unfolding stepped choose isnt
-  stepped_on h = ap (λ (t : Bool). choose (isnt t) step_full step_on) (lt-ltb s.transaction_number s.ceiling h)
+  unfolding stepped isnt
+  stepped_on h = chosen_second _ step_full step_on (ap isnt (lt-ltb s.transaction_number s.ceiling h))
 
   -- by value
   pub step_refused : s.ceiling ≤ s.transaction_number → StepsTo s (Err NumberExhausted)

@@ -43,11 +43,11 @@ established_under ceiling scheme number id credentials listed =
     }
 
 -- one that is made without a ceiling has this: no number of 16 bits is above it
-abbrev pub no_ceiling : ℕ
-no_ceiling = 0xFFFF
+abbrev pub ceiling_none : ℕ
+ceiling_none = 0xFFFF
 
 abbrev pub established : ℕ → ℕ → List ℕ → List ℕ → List ℕ → AuthenticatedContext
-established scheme number id credentials listed = established_under no_ceiling scheme number id credentials listed
+established scheme number id credentials listed = established_under ceiling_none scheme number id credentials listed
 
 -- a session, or the refusal of the first row that holds
 abbrev pub Makes : ℕ → ℕ → ℕ → List ℕ → List ℕ → List ℕ → Result AuthenticatedContext Refusal → Type 0

@@ -2,7 +2,7 @@
 ghost use Rattle.std.specs.Prelude.{◌≡◌, ◌*◌, ◌<◌, ◌≤◌, length, take, MatchOption};
 ghost use Rattle.answer.specs.Outcome.{Meets};
 ghost use Rattle.answer.specs.Refusal.{refusal_number};
-ghost use Rattle.session.specs.Session.{no_ceiling, Makes, with_number, StepsTo, Steps, counting, listed_count, first_place, index, Receives, receiving, credentials_size, credentials_of};
+ghost use Rattle.session.specs.Session.{ceiling_none, Makes, with_number, StepsTo, Steps, counting, listed_count, first_place, index, Receives, receiving, credentials_size, credentials_of};
 ghost use Rattle.frame.specs.Scheme.{sealing, opening};
 ghost use Rattle.session.specs.Entries.{nodes as node_list};
 ghost use Rattle.session.specs.Record.{encode, decode};
@@ -17,8 +17,9 @@ pub const CEILING_NONE: u16 = 0xFFFF;
 // The first byte of a session's bytes.
 const VERSION: u8 = 2;
 
-// nodes has node_count nodes of two bytes each, the low byte first. A DES session key is the first 8 bytes of credentials. A mark that is a number,
-// arrays that hold the most and a count beside them: any 180 bytes decode to a session, and nothing allocates.
+// At or above the ceiling the number does not step. nodes has node_count nodes of two bytes each, the low byte first. A DES session key is the first
+// 8 bytes of credentials. A mark that is a number, arrays that hold the most and a count beside them: any 180 bytes decode to a session, and nothing
+// allocates.
 #[derive(Clone, Copy)]
 pub struct AuthenticatedContext {
     transaction_number: u16,
@@ -47,7 +48,7 @@ impl AuthenticatedContext {
         credentials: &[u8],
         nodes: &[u8],
     ) -> Result<AuthenticatedContext, Refusal>
-        ensures { Makes no_ceiling scheme number id.now credentials.now nodes.now result }
+        ensures { Makes ceiling_none scheme number id.now credentials.now nodes.now result }
     {
         AuthenticatedContext::new_with_ceiling(scheme, number, CEILING_NONE, id, credentials, nodes)
     }
@@ -287,10 +288,10 @@ impl AuthenticatedContext {
         ensures { (result ≡ encode self) × (decode result ≡ self) }
     {
         let [n0, n1] = self.transaction_number.to_le_bytes();
-        let [m0, m1] = self.ceiling.to_le_bytes();
-        let [c0, c1] = self.node_count.to_le_bytes();
+        let [c0, c1] = self.ceiling.to_le_bytes();
+        let [l0, l1] = self.node_count.to_le_bytes();
         let mut bytes = [0u8; 180];
-        bytes[..8].copy_from_slice(&[VERSION, self.scheme, n0, n1, m0, m1, c0, c1]);
+        bytes[..8].copy_from_slice(&[VERSION, self.scheme, n0, n1, c0, c1, l0, l1]);
         bytes[8..14].copy_from_slice(&self.transaction_id);
         bytes[14..50].copy_from_slice(&self.credentials);
         bytes[50..178].copy_from_slice(&self.nodes);
@@ -302,16 +303,16 @@ impl AuthenticatedContext {
     pub fn decode(bytes: [u8; 180]) -> AuthenticatedContext
         ensures { result ≡ decode bytes }
     {
-        let [_, scheme, n0, n1, m0, m1, c0, c1, .., t0, t1] = bytes;
+        let [_, scheme, n0, n1, c0, c1, l0, l1, .., t0, t1] = bytes;
         AuthenticatedContext {
             transaction_number: u16::from_le_bytes([n0, n1]),
             transaction_id: answer::fit(&bytes[8..14]),
             scheme,
             credentials: answer::fit(&bytes[14..50]),
             nodes: answer::fit(&bytes[50..178]),
-            node_count: u16::from_le_bytes([c0, c1]),
+            node_count: u16::from_le_bytes([l0, l1]),
             turned_away: u16::from_le_bytes([t0, t1]),
-            ceiling: u16::from_le_bytes([m0, m1]),
+            ceiling: u16::from_le_bytes([c0, c1]),
         }
     }
 }
