@@ -8,13 +8,14 @@ function asks nothing of its caller and promises something, that a symbol in a c
 that a test can fail, and that no crate, edit or table stands where the gate does not look.
 tests/lint_test.py plants a fault for each.
 
-    public-requires   a public or exported function has a `requires`, other than that a closure it is given may be called
+    public-requires   a public or exported function has a `requires`
     public-ensures    a public or exported function of a library crate has no `ensures`
     own-symbol        a name of the kit is given another meaning
     hidden-name       a name of the code hides what a contract brings in
     proofs-cited      a contract or a definition cites a proof
     inner-cited       a public contract, a named theorem or an outer definition cites specs/inner/
     lower-unfolded    a crate opens a definition of a crate below it
+    answer-fields     a crate other than answer writes the fields of an acceptance
     table-in-specs    a definition has a list of more than 64 numbers
     edit-of-proof     a must-fail edit changes a proof
     unlisted-crate    crates.txt does not list a crate
@@ -265,10 +266,6 @@ class Function:
         inside = self.head[:end_of(self.head, self.head.find("("), "()")]
         return re.findall(r"[(,]\s*(?:mut\s+)?(\w+)\s*:(?!:)", inside)
 
-    def asks(self):
-        """Has it a `requires`? That a closure may be called is none: a closure says itself what it asks."""
-        return re.search(r"\brequires\b\*?\s*(?:[\w«»]+\s*)?\{(?!\s*\w+\.IsAlwaysCallable \w+\s*\})", self.head)
-
     def has(self, clause):
         """Has it such a clause? It may have a name, as `requires low { .. }`, and a star."""
         return re.search(r"\b%s\b\*?\s*(?:[\w«»]+\s*)?\{" % clause, self.head)
@@ -351,12 +348,12 @@ class Repository:
 
 
 def contracts(repo):
-    """A public or exported function has no requires but that a closure may be called, and has an ensures. Programs, and crates that read and
-    write for them, may go without the second."""
+    """A public or exported function has no requires, and has an ensures. Programs, and crates that read and write for them, may go without the
+    second."""
     libraries = repo.libraries()
     for f in repo.rt:
         for g in functions(f.text):
-            if g.public and g.asks():
+            if g.public and g.has("requires"):
                 repo.fault("public-requires", f.path, g.line, "%s has a requires" % g.name)
             if g.public and f.crate in libraries and not g.has("ensures"):
                 repo.fault("public-ensures", f.path, g.line, "%s has no ensures" % g.name)
@@ -537,6 +534,14 @@ def layers(repo):
                 repo.fault("lower-unfolded", f.path, u.line, "%s is passed on to be opened" % u.module)
 
 
+def acceptances(repo):
+    """Answers are made in crate answer: no other crate names the fields of an `Accepted`, to write them or to take them apart."""
+    for f in repo.rt:
+        for m in re.finditer(r"^(?!\s*//).*(?<!-> )(?<!-> answer::)\bAccepted\s*\{", f.text, re.M):
+            if f.crate != VOCABULARY:
+                repo.fault("answer-fields", f.path, line_of(f.text, m.start()), "the fields of an Accepted")
+
+
 def tables(repo):
     """Speed-up tables are the code's. A definition has the numbers that the standard prints: the longest is 64 entries."""
     for f in repo.specs:
@@ -576,7 +581,7 @@ def words(repo):
 
 
 RULES = (crates, words, contracts, own_definitions, own_imports, hidden_names, proofs_cited, inner_contracts, inner_definitions, inner_theorems,
-         layers, tables, edits)
+         layers, acceptances, tables, edits)
 
 
 def check(tree):

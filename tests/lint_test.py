@@ -62,9 +62,10 @@ FAULTS = [
     ("public-requires", add(CODE, "\npub fn f(x: u8) -> u8\n    ghost top: { ℕ }\n    requires { x < top }\n    ensures { result ≡ x }\n{\n    x\n}\n")),
     ("public-requires", add(CODE, "\npub trait T {\n    fn f(self) -> u8\n        requires { self.x < 3 };\n}\n")),
     ("public-requires", add(CODE, "\nimpl S {\n    pub fn f(self) -> u8\n        requires { self.x < 3 }\n        ensures { result ≡ 1 }\n    {\n        1\n    }\n}\n")),
-    # a closure that may be called, and more
+    # a closure that may be called, and more, and that alone
     ("public-requires", add(CODE, "\npub fn f<F: FnMut(u8)>(f: F, x: u8) -> u8\n    requires may { F.IsAlwaysCallable f }\n    requires low { x < 3 }\n    ensures { result ≡ x }\n{\n    x\n}\n")),
     ("public-requires", add(CODE, "\npub fn f<F: FnMut(u8)>(f: F, x: u8) -> u8\n    requires { F.IsAlwaysCallable f × (x < 3) }\n    ensures { result ≡ x }\n{\n    x\n}\n")),
+    ("public-requires", add(CODE, "\npub fn f<F: FnMut(u8)>(f: F, x: u8) -> u8\n    requires { F.IsAlwaysCallable f }\n    ensures { result ≡ x }\n{\n    x\n}\n")),
     # the body opens on the first line; on a line of its own; after parameters over several lines, with a function behind it that has an ensures
     ("public-ensures", add(CODE, EXPORT + " {\n    x\n}\n")),
     ("public-ensures", add(CODE, "\npub fn f(x: u8) -> u8 {\n    x\n}\n")),
@@ -166,6 +167,9 @@ FAULTS = [
                         add("crates.txt", "\nplanted: frame\n")]),
     ("lower-unfolded", [write("crates/answer/proofs/Planted.antt", "use Rattle.cipher.specs.Fips197.{s_box}\n\nf : ℕ\nunfolding s_box\nf = s_box 3\n"),
                         ("crates.txt", lambda old: old if "\nanswer:" in old else old + "\nanswer: cipher\n")]),
+    # an acceptance made outside crate answer, and one taken apart
+    ("answer-fields", add("crates/session/src/keys.rt", "\nfn f() -> Answer {\n    Ok(Accepted {\n        length: 1,\n        ..Accepted::sized(0)\n    })\n}\n")),
+    ("answer-fields", add("crates/replay/src/ends.rt", "\nfn f(x: Accepted) -> u16 {\n    let answer::Accepted { length, .. } = x;\n    length\n}\n")),
     # where the gate does not look
     ("edit-of-proof", write("crates/cipher/must-fail/planted.edit", "file: proofs/Xor.antt\nold: refl\nnew: tt\n")),
     ("table-in-specs", own("unfoldable pub big : List ℕ\nbig = %s[]" % ("0x63 ∷ " * 65))),
@@ -180,7 +184,6 @@ FAULTS = [
 
 # what is no fault
 FINE = [
-    add(CODE, "\npub fn f<F: FnMut(u8)>(f: F, x: u8) -> u8\n    requires { F.IsAlwaysCallable f }\n    ensures { result ≡ x }\n{\n    x\n}\n"),
     add(CODE, "\npub fn f(x: [[u8; 6]; 2], y: &mut [u8]) -> [u8; 6]\n    ensures { Meets {A = ℕ} result x }\n{\n    x[0]\n}\n"),
     add(CODE, "\npub(crate) fn f(x: u8) -> u8\n    requires { x < 3 }\n{\n    x\n}\n\nfn g(x: u8) -> u8 {\n    x\n}\n"),
     add(CODE, "\n// pub fn f(x: u8) {}\nghost use %s.{Planted};\n\nfn f(x: u8) -> u8\n    ensures { Planted result x }\n{\n    x\n}\n" % INNER),
@@ -191,6 +194,9 @@ FINE = [
     own("infixl 65 ◌⊠◌\nunfoldable pub ◌⊠◌ : List ℕ → List ℕ → List ℕ\n[] ⊠ l = []\n(n ∷ ns) ⊠ l = l"),
     write("crates/cipher/specs/inner/Planted.antt", "use Rattle.cipher.specs.inner.Other.{other}\n\npub mine : ℕ\nmine = other\n"),
     [write(PROOF, "use %s.{Planted}\n\npub planted-lemma : (n : ℕ) → Planted n\nplanted-lemma n = tt\n" % INNER), add("docs/PROOFS.md", "\n`planted-theorem`\n")],
+    # an acceptance made by crate answer, and one by its function
+    add("crates/answer/src/answer.rt", "\nfn f() -> Accepted {\n    Accepted {\n        length: 1,\n        ..Accepted::sized(0)\n    }\n}\n"),
+    add("crates/session/src/keys.rt", "\n// Accepted { length: 1 }\nfn f() -> Accepted {\n    Accepted::sized(1)\n}\n"),
     # a lemma of a crate below in a tactic's list
     unfolds("use Rattle.cipher.proofs.Xor.{zeros}", "f = simp (zeros, other) (rw zeros)"),
     unfolds("use Rattle.frame.specs.Padding.{pad}\nuse Rattle.cipher.specs.Fips197.{s_box}", "unfolding pad\nf = s_box 3"),

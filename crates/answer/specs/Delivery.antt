@@ -1,4 +1,4 @@
--- The last row, 16: bytes go out where there is room for them. Assumes nothing.
+-- docs/NUMBERS.md, row 16, which is last: bytes go out where there is room for them. Assumes nothing.
 use Rattle.std.specs.Prelude.{ℕ, ◌%◌, ◌≡◌, List, [], ◌∷◌, ltb, length}
 use Rattle.answer.specs.Outcome.{Outcome, Answer, answer_number, answer_length, answer_transaction, answer_padding, accepted, row, decide, over}
 

@@ -1,4 +1,4 @@
--- How a reader of a fixed length takes a byte string of any length. Assumes nothing.
+-- From no document: how a reader of a fixed length takes a byte string of any length. Assumes nothing.
 use Rattle.std.specs.Prelude.{ℕ, ◌≡◌, ◌≢◌, List, ◌++◌, length, take, drop, replicate, Result, MatchResult}
 use Rattle.answer.specs.declared.refusal.Refusal.{Refusal}
 use Rattle.answer.specs.declared.refusal.Refusal.TheVariants.{BadMarkOrLength}

@@ -1,4 +1,4 @@
--- A number in two bytes, the low one first. Assumes nothing.
+-- docs/RULES.md, Layouts: a number in two bytes, the low one first. Assumes nothing.
 use Rattle.std.specs.Prelude.{ℕ, ◌+◌, ◌*◌, ◌/◌, ◌%◌, List, [], ◌∷◌, get_or}
 
 abbrev pub number_bytes : ℕ → List ℕ

@@ -1,4 +1,4 @@
--- What a call answers and writes. Its numbers are those of docs/NUMBERS.md; 0 is acceptance. Assumes nothing.
+-- docs/RULES.md, Turned-down calls: what a call answers and writes. Its numbers are those of docs/NUMBERS.md; 0 is acceptance. Assumes nothing.
 use Rattle.std.specs.Prelude.{ℕ, ◌≡◌, Bool, true, false, List, [], ◌∷◌, ◌++◌, length, drop, Result, Ok, Err}
 use Rattle.answer.specs.declared.answer.Accepted.{Accepted}
 use Rattle.answer.specs.declared.refusal.Refusal.{Refusal}

@@ -1,4 +1,4 @@
--- The tests that the conditions of docs/NUMBERS.md are made of. Assumes nothing.
+-- docs/NUMBERS.md: the tests that its conditions are made of. Assumes nothing.
 use Rattle.std.specs.Prelude.{ℕ, Bool, true, false, List, [], ◌∷◌, eqb}
 
 unfoldable pub isnt : Bool → Bool

@@ -27,6 +27,16 @@ impl Accepted {
         }
     }
 
+    // An acceptance with a length and a transaction number.
+    pub fn opened(length: u16, transaction_number: u16) -> Self
+        ensures { (result.length ≡ length) × (result.transaction_number ≡ transaction_number) × (result.padding ≡ 0) }
+    {
+        Accepted {
+            transaction_number,
+            ..Accepted::sized(length)
+        }
+    }
+
     // An acceptance with a transaction number.
     pub fn numbered(transaction_number: u16) -> Self
         ensures { (result.length ≡ 0) × (result.transaction_number ≡ transaction_number) × (result.padding ≡ 0) }

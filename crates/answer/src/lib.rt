@@ -15,4 +15,4 @@ pub use delivery::deliver;
 pub use fixed::{exact, fit};
 pub use number::transaction_number;
 pub use refusal::Refusal;
-pub use scheme::Scheme;
+pub use scheme::{AES128, DES, Scheme};

@@ -4,6 +4,11 @@ ghost use Rattle.answer.specs.Scheme.{mark_of, HasMark};
 
 use crate::refusal::Refusal;
 
+// The marks, as callers pass them. A key's algorithm has the same numbers.
+pub const DES: u8 = 1;
+
+pub const AES128: u8 = 2;
+
 #[derive(Clone, Copy, Debug, PartialEq, Eq)]
 pub enum Scheme {
     Des,
@@ -11,13 +16,13 @@ pub enum Scheme {
 }
 
 impl Scheme {
-    // Its mark. A key's algorithm has the same numbers.
+    // Its mark.
     pub fn mark(self) -> u8
         ensures { result ≡ mark_of self }
     {
         match self {
-            Scheme::Des => 1,
-            Scheme::Aes128 => 2,
+            Scheme::Des => DES,
+            Scheme::Aes128 => AES128,
         }
     }
 }
@@ -29,8 +34,8 @@ impl TryFrom<u8> for Scheme {
 
     fn try_from(mark: u8) -> Result<Self, Refusal> {
         match mark {
-            1 => Ok(Scheme::Des),
-            2 => Ok(Scheme::Aes128),
+            DES => Ok(Scheme::Des),
+            AES128 => Ok(Scheme::Aes128),
             _ => Err(Refusal::BadMarkOrLength),
         }
     }

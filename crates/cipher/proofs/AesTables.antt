@@ -47,7 +47,8 @@ pub second_byte : (w x : ℕ) → word_bytes w ≡ multiples 0x02 0x03 0x01 0x01
 unfolding word_bytes multiples
 second_byte w x e = ap (λ (l : List ℕ). get_or l 1 0) e ∙ unit x
 
-te_second : (t : List ℕ) → TeTable t → (x : ℕ) → x < 256 → get_or t x 0 / 65536 % 256 ≡ s_box x
+-- so the second byte of an entry is the S-box
+pub te_second : (t : List ℕ) → TeTable t → (x : ℕ) → x < 256 → get_or t x 0 / 65536 % 256 ≡ s_box x
 te_second t m x h = second_byte (get_or t x 0) (s_box x) (m.entry x h)
 
 -- ---- the code's tables `TE`, `U` and `INV_S`

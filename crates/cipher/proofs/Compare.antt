@@ -1,8 +1,9 @@
 -- A comparison that gathers the differences of all bytes before it answers. Assumes nothing.
-use mathlib.Core.Path.{◌≡◌, sym, ap, ap₂, ◌∙◌}
+use mathlib.Core.Path.{◌≡◌, refl, sym, ap, ap₂, ◌∙◌}
 use mathlib.Core.List.{List}
 use mathlib.Core.Bool.{true}
 use Prim.Native.Nat.{ℕ, ◌+◌, ◌≤◌, ◌<◌}
+use native.Mathlib.Nat.{not-suc-le-zero}
 use native.Mathlib.Omega.{arith}
 use borrow.Author.Count.{below_more}
 use borrow.Author.Tests.{eq-eqb, eqb-true}
@@ -30,6 +31,10 @@ pub record Gathered (a b : List ℕ) (diff i : ℕ) : Type 0 where
   pub within : i ≤ length a
   pub sound : diff ≡ 0 → Agree a b i
   pub complete : Agree a b i → diff ≡ 0
+
+-- before the first byte
+pub gather_start : (a b : List ℕ) → length a ≡ length b → Gathered a b 0 0
+gather_start a b e = record { same_length = e; within = omega arith; sound = λ _ k h. absurd (not-suc-le-zero h); complete = λ _. refl }
 
 pub gather_step : {a b : List ℕ} {diff i : ℕ} → Gathered a b diff i → i < length a → Gathered a b (bit_or diff (bit_xor (get_or a i 0) (get_or b i 0))) (i + 1)
 gather_step {a} {b} {diff} {i} g h =

@@ -5,8 +5,16 @@ use mathlib.Core.Logic.{⊎_elim}
 use Prim.Native.Nat.{ℕ, ◌+◌, ◌-◌, ◌≤◌, ◌<◌, min}
 use native.Mathlib.Omega.{arith}
 use lib.ListN.{length, take, drop, length-append, length-take, length-drop, drop_of_length-le}
-use lib.Seq.{take_at, drop_at, take_all, drop-drop, length-take-le}
+use lib.Seq.{take_at, drop_at, take_all, drop-length, drop-drop, length-take-le}
 use Rattle.cipher.proofs.Numbers.{le_or_lt}
+
+-- past the shorter of the two, the destination is as it was
+pub drop_copied : (src d : List ℕ) → drop (length (take (length d) src)) d ≡ drop (length src) d
+drop_copied src d =
+    ⊎_elim
+    (λ (h : length src ≤ length d). rw (take_all (length d) src h))
+    (λ (h : length d < length src). let k : length d ≤ length src = omega arith in rw (length-take-le (length d) src k, drop_of_length-le d k, drop-length))
+    (le_or_lt (length src) (length d))
 
 -- a copy that fills the whole destination leaves the source
 pub copied : (p d b : List ℕ) → b ≡ take (length d) p ++ drop (length p) d → length d ≡ length p → b ≡ p

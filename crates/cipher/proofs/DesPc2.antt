@@ -1,9 +1,9 @@
 -- The numbers of the code's table PC2_ENTRIES follow their rule. Assumes nothing.
 use mathlib.Core.Bool.{Bool}
-use mathlib.Core.Path.{◌≡◌}
+use mathlib.Core.Path.{◌≡◌, refl}
 use Prim.Native.Nat.{ℕ, ◌/◌, ◌%◌, ◌<◌}
 use lib.Dec.{eqb, eqb→eq}
-use lib.ListN.{get_or}
+use lib.ListN.{length, get_or}
 use Rattle.cipher.specs.declared.des.TheConstants.{PC2_ENTRIES}
 use Rattle.cipher.specs.Bits.{bool, digit, bits, num, num_from}
 use Rattle.cipher.specs.Fips46.{select, PC2}
@@ -17,3 +17,7 @@ right i x = eqb x (num (pc2_bits (i / 128) (i % 128)))
 pub pc2_entry : (i : ℕ) → i < 1024 → get_or PC2_ENTRIES i 0 ≡ num (pc2_bits (i / 128) (i % 128))
 unfolding right bool digit bits num num_from select PC2 among packed_places places pc2_bits
 pc2_entry i h = eqb→eq (get_or PC2_ENTRIES i 0) (num (pc2_bits (i / 128) (i % 128))) (at right PC2_ENTRIES tt i h)
+
+-- the table has 1,024 entries, and each follows the rule
+pub pc2_table_lem : (length PC2_ENTRIES ≡ 1024) × ((i : ℕ) → i < 1024 → get_or PC2_ENTRIES i 0 ≡ num (pc2_bits (i / 128) (i % 128)))
+pc2_table_lem = (refl, pc2_entry)

@@ -11,9 +11,15 @@ use Rattle.std.proofs.lemmas.List.{drop-take}
 use lib.Seq.{take-take, drop-drop, take_at, drop_at, set_at}
 use Rattle.cipher.specs.Bytes.{◌⊕◌}
 use Rattle.cipher.specs.Sp80038a.{blocks}
-use Rattle.cipher.specs.Sp80038b.{double, K1, K2, last_block, mac_from, cmac}
+use Rattle.cipher.specs.Sp80038b.{shift_left, double, K1, K2, last_block, mac_from, cmac}
+use Rattle.cipher.proofs.Tabulation.{length_tab}
 use Rattle.cipher.proofs.Xor.{zeros-⊕}
 use Rattle.cipher.proofs.Chains.{blocks_none, blocks_more}
+
+-- a block shifted left has the w bytes of its width
+pub length_shift_left : (w : ℕ) (x : List ℕ) → length (shift_left w x) ≡ w
+unfolding shift_left
+length_shift_left w x = length_tab w _
 
 pub drop_replicate : (n m : ℕ) (a : ℕ) → drop n (replicate m a) ≡ replicate (m - n) a
 drop_replicate zero m a = rw sub-zero

@@ -31,7 +31,7 @@ module _ (CIPH : List ℕ → List ℕ) (w : ℕ) (pos : 0 < w) {s₀ buf₀ s b
         let e : y ≡ CIPH (take w (drop at buf)) ⊕ s = cc in
         rw l (run_step _ _ w y buf' pos r (omega arith) (long ∙ sym (length_part buf at w h)) e put)
 
-  ofb_turn : (y buf' : List ℕ) → at < length buf → y ≡ CIPH s → length y ≡ w → buf' ≡ take at buf ++ (take w (drop at buf) ⊕ y) ++ drop (at + w) buf
+  pub ofb_turn : (y buf' : List ℕ) → at < length buf → y ≡ CIPH s → length y ≡ w → buf' ≡ take at buf ++ (take w (drop at buf) ⊕ y) ++ drop (at + w) buf
       → Run (ofb_out CIPH w) (ofb_next CIPH w) w s₀ buf₀ s buf at → Run (ofb_out CIPH w) (ofb_next CIPH w) w s₀ buf₀ y buf' (at + w)
   unfolding ofb_out ofb_next
   ofb_turn y buf' h e long put r =
@@ -41,7 +41,7 @@ module _ (CIPH : List ℕ → List ℕ) (w : ℕ) (pos : 0 < w) {s₀ buf₀ s b
 -- ---- the input block of OFB
 
 -- at a block boundary, and after one more block
-input_turn : (CIPH : List ℕ → List ℕ) (w : ℕ) → 0 < w → (iv s y : List ℕ) (at : ℕ) → s ≡ ofb_input CIPH w (at / w) iv → y ≡ CIPH s → y ≡ ofb_input CIPH w ((at + w) / w) iv
+pub input_turn : (CIPH : List ℕ → List ℕ) (w : ℕ) → 0 < w → (iv s y : List ℕ) (at : ℕ) → s ≡ ofb_input CIPH w (at / w) iv → y ≡ CIPH s → y ≡ ofb_input CIPH w ((at + w) / w) iv
 unfolding ofb_input
 input_turn CIPH w pos iv s y at e f = f ∙ ap CIPH e ∙ ap (λ (n : ℕ). ofb_input CIPH w n iv) (sym (add-div_right at pos ∙ add-one (at / w)))
 

@@ -1,11 +1,12 @@
 -- The bytes of words of 32 bits, highest first, and lists of them. Assumes nothing.
-use mathlib.Core.Path.{◌≡◌, refl, ap, ap₂, ◌∙◌}
+use mathlib.Core.Path.{◌≡◌, refl, sym, ap, ap₂, ◌∙◌}
 use mathlib.Core.List.{List, [], ◌∷◌, ◌++◌, map}
-use Prim.Native.Nat.{ℕ, zero, suc, ◌+◌, ◌*◌, ◌/◌, ◌%◌, ◌^◌, ◌<◌}
+use Prim.Native.Nat.{ℕ, zero, suc, ◌+◌, ◌*◌, ◌/◌, ◌%◌, ◌^◌, ◌≤◌, ◌<◌}
 use native.Mathlib.Nat.{mod-lt}
 use native.Mathlib.Omega.{arith}
 use lib.Dec.{lit<}
-use lib.ListN.{length, drop}
+use lib.ListN.{length, take, drop, get_or}
+use lib.Seq.{drop-cons}
 use lib.Pow.{shr-shr}
 use lib.Bits.{bit_xor, bit_or, xor_shr, xor_mod, or_shifted, or_shifted_r}
 use Rattle.std.specs.Int.{w32, from_be_bytes, rotate_left, rotate_right}
@@ -85,6 +86,20 @@ unfolding words_bytes word_bytes
 words_drop zero ws = refl
 words_drop (suc m) [] = let e : 4 * suc m ≡ suc (suc (suc (suc (4 * m)))) = omega arith in rw e
 words_drop (suc m) (x ∷ ws) = let e : 4 * suc m ≡ suc (suc (suc (suc (4 * m)))) = omega arith in rw e (words_drop m ws)
+
+next : (ws : List ℕ) (j k : ℕ) → k ≡ suc j → j < length ws → drop j ws ≡ get_or ws j 0 ∷ drop k ws
+next ws j k e h = drop-cons ws j 0 h ∙ ap (λ (n : ℕ). get_or ws j 0 ∷ drop n ws) (sym e)
+
+-- four words from the middle
+pub words_four : (m : ℕ) (ws : List ℕ) → m + 4 ≤ length ws
+    → take 16 (drop (4 * m) (words_bytes ws)) ≡ words_bytes (get_or ws m 0 ∷ get_or ws (m + 1) 0 ∷ get_or ws (m + 2) 0 ∷ get_or ws (m + 3) 0 ∷ [])
+unfolding words_bytes word_bytes
+words_four m ws h =
+    ap (take 16) (words_drop m ws
+    ∙ ap words_bytes (next ws m (m + 1) (omega arith) (omega arith)
+    ∙ ap (λ (s : List ℕ). get_or ws m 0 ∷ s) (next ws (m + 1) (m + 2) (omega arith) (omega arith)
+    ∙ ap (λ (s : List ℕ). get_or ws (m + 1) 0 ∷ s) (next ws (m + 2) (m + 3) (omega arith) (omega arith)
+    ∙ ap (λ (s : List ℕ). get_or ws (m + 2) 0 ∷ s) (next ws (m + 3) (m + 4) (omega arith) (omega arith))))))
 
 -- the words' bytes, one word after the other
 pub words_of : {p q r s : List ℕ} (a b c d : ℕ) → word_bytes a ≡ p → word_bytes b ≡ q → word_bytes c ≡ r → word_bytes d ≡ s

@@ -1,11 +1,18 @@
 -- What C gets of an answer, and that its parts come back. Assumes nothing.
 use mathlib.Core.Path.{◌≡◌, refl, sym, ap, ◌∙◌}
-use mathlib.Core.List.{List}
-use Prim.Native.Nat.{ℕ, ◌<◌}
+use mathlib.Core.Bool.{Bool, true, false, not}
+use mathlib.Core.List.{List, [], ◌∷◌}
+use Prim.Native.Nat.{ℕ, ◌*◌, ◌<◌}
 use native.Mathlib.Omega.{arith}
 use lib.Dec.{lit<}
-use Rattle.answer.specs.Outcome.{Outcome, Meets, Answer, answer_number, answer_length, answer_transaction, answer_padding}
+use Rattle.std.specs.Int.{from_bool}
+use Rattle.std.specs.Prelude.{Result, Ok, Err, MatchResult}
+use Rattle.answer.specs.declared.refusal.Refusal.{Refusal}
+use Rattle.answer.specs.Outcome.{Outcome, Meets, Answer, answer_number, answer_length, answer_transaction, answer_padding, refused, acceptance, accepted, row, choose, decide, over}
+use Rattle.answer.specs.Refusal.{refusal_number}
+use Rattle.answer.specs.Tests.{isnt}
 use Rattle.frame.specs.Forecast.{forecasting}
+use Rattle.session.specs.Challenge.{Compares}
 use Rattle.felica_secure.specs.Packed.{packed, packed_sealed, packed_number, packed_mark, packed_length, packed_transaction, packed_padding, Returns}
 
 -- the parts of a packed answer are what was packed
@@ -70,3 +77,21 @@ meets_returns o a r before after m e = record { answer = e ∙ rw (m.number, m.l
 pub forecast_packed : (scheme n : ℕ) (a : Answer) (r : ℕ) → (answer_number a ≡ (forecasting scheme n).number) × (answer_length a ≡ (forecasting scheme n).size) × (answer_transaction a ≡ 0) × (answer_padding a ≡ 0)
     → r ≡ packed_sealed (answer_number a) 0 (answer_length a) (answer_transaction a) (answer_padding a) → r ≡ packed (forecasting scheme n).number 0 (forecasting scheme n).size 0
 forecast_packed scheme n a r f e = e ∙ packed_unpadded _ _ _ _ _ f.3 ∙ rw (f.0, f.1, f.2)
+
+-- ---- a check, packed
+
+pub unequal_13 : (t : Bool) → from_bool (not t) * 13 ≡ choose t 0 13
+unfolding choose
+unequal_13 true = refl
+unequal_13 false = refl
+
+-- the outcome of two blocks that are equal or not
+compared_returns : (t : Bool) (r : ℕ) → r ≡ choose t 0 13 → Returns (decide (row 13 (isnt t) ∷ []) (accepted 0 [])) r [] []
+unfolding decide choose isnt refused acceptance over
+compared_returns true r e = record { answer = e ∙ sym (packed_alone 0); output = refl }
+compared_returns false r e = record { answer = e ∙ sym (packed_alone 13); output = refl }
+
+pub checks_returns : (o : Outcome) (check : Result Bool Refusal) (r : ℕ) → Compares o check → MatchResult check (λ equal. r ≡ choose equal 0 13) (λ e. r ≡ refusal_number e) → Returns o r [] []
+unfolding refused over
+checks_returns o (Ok t) r h e = rw h (compared_returns t r e)
+checks_returns o (Err f) r h e = rw h.0 record { answer = e ∙ ap refusal_number h.1 ∙ sym (packed_alone 17); output = refl }

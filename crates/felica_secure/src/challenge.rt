@@ -104,7 +104,14 @@ pub extern "C" fn felica_verify_challenge1b(
 ) -> u64
     ensures { Returns (checking_1b scheme keys.now idm.now challenge_3c.now random_1.now challenge_1b.now) result [] [] }
 {
-    pack::pack(session::verify_challenge1b(scheme, keys, idm, challenge_3c, random_1, challenge_1b))
+    pack::pack_check(session::is_challenge1b(
+        scheme,
+        keys,
+        idm,
+        challenge_3c,
+        random_1,
+        challenge_1b,
+    ))
 }
 
 // Checks 2B: the card, against its random 2.
@@ -118,7 +125,7 @@ pub extern "C" fn felica_verify_challenge2b(
 ) -> u64
     ensures { Returns (checking_2b scheme keys.now idm.now random_2.now challenge_2b.now) result [] [] }
 {
-    pack::pack(session::verify_challenge2b(scheme, keys, idm, random_2, challenge_2b))
+    pack::pack_check(session::is_challenge2b(scheme, keys, idm, random_2, challenge_2b))
 }
 
 // The AES session keys of random 2: cipher key, then MAC key.

@@ -5,8 +5,8 @@ use mathlib.Core.List.{List, [], ◌∷◌, ◌++◌}
 use mathlib.Core.Logic.{⊎_elim}
 use Prim.Native.Nat.{ℕ, suc, ◌+◌, ◌-◌, ◌/◌, ◌%◌, ◌≤◌, ◌<◌}
 use native.Mathlib.Omega.{arith}
-use borrow.Author.Tests.{eq-eqb, lt-ltb, le-ltb}
-use lib.Dec.{ltb}
+use borrow.Author.Tests.{eq-eqb, lt-ltb, le-ltb, ltb-false}
+use lib.Dec.{eqb, ltb}
 use lib.ListN.{length, take, drop, take-append-drop, length-append}
 use lib.Seq.{take_at, drop_at}
 use Rattle.cipher.specs.Fips197.{aes_encrypt}
@@ -18,13 +18,14 @@ use Rattle.std.specs.Int.{w16, from_le_bytes}
 use Rattle.answer.specs.declared.refusal.Refusal.{Refusal}
 use Rattle.answer.specs.declared.refusal.Refusal.TheVariants.{TooShort, TooLong}
 use Rattle.answer.specs.Refusal.{refusal_number}
-use Rattle.std.specs.Prelude.{Err}
+use Rattle.std.specs.Borrow.{Bor}
+use Rattle.std.specs.Prelude.{Result, Err}
 use Rattle.answer.specs.Outcome.{Answer, Meets, Row, refused, acceptance, accepted, row, choose, decide, first_of}
 use Rattle.answer.specs.Delivery.{handing, delivering, Delivers}
 use Rattle.frame.specs.AesFrame.{cipher_key, mac_key, challenge_3c, aes_iv, aes_mac, mac_input, opened_iv, opened_payload, opened_mac, aes_opening, aes_open_rows}
-use Rattle.frame.specs.inner.AesSteps.{aes_accepting, aes_trying}
-use Rattle.answer.specs.Tests.{isnt, either, same}
-use Rattle.answer.proofs.Rows.{both_right, decide_false, row_meets, decided_meets}
+use Rattle.frame.specs.inner.AesSteps.{ChecksOpenAes, aes_accepting, aes_trying}
+use Rattle.answer.specs.Tests.{isnt, either, both, same}
+use Rattle.answer.proofs.Rows.{numbered, either_false, is_number, first_refuses, first_passes, both_right, decide_false, row_meets, decided_meets}
 use Rattle.answer.proofs.Outputs.{copied_over, front}
 use Rattle.answer.proofs.Equality.{same_is}
 
@@ -106,6 +107,21 @@ module _ (code number : ℕ) (id c sealed mac z : List ℕ) (small : number < 65
 
 -- ---- the rows by lengths
 
+-- what the lengths are where none holds
+pub record AesOpenable (id c sealed : ℕ) : Type 0 where
+  pub six : id ≡ 6
+  pub all : c ≡ 36
+  pub enough : 10 ≤ sealed
+  pub short : sealed ≤ 253
+
+-- none does where the number of the first that does is 0
+pub aes_open_passes : (id c sealed : ℕ) → 0 ≡ first_of (aes_open_rows id c sealed) → AesOpenable id c sealed
+unfolding aes_open_rows numbered both
+aes_open_passes id c sealed e =
+    let h = first_passes (aes_open_rows id c sealed) 0 refl e refl in
+    let f = either_false (isnt (eqb id 6)) (isnt (eqb c 36)) h.0 in
+    record { six = is_number id 6 f.0; all = is_number c 36 f.1; enough = ltb-false sealed 10 h.1.0; short = ltb-false 253 sealed h.1.1.0 }
+
 module _ (c id d : List ℕ) (code room : ℕ) where
   -- the rows by lengths alone, then the others
   aes_open_steps : aes_opening c code id d room ≡ decide (aes_open_rows (length id) (length c) (length d)) (aes_trying c code id d room)
@@ -115,6 +131,14 @@ module _ (c id d : List ℕ) (code room : ℕ) where
   -- one of them holds
   pub aes_open_refused : (e : Refusal) (out : List ℕ) {r : Answer} → r ≡ Err e → first_of (aes_open_rows (length id) (length c) (length d)) ≡ refusal_number e → Meets (aes_opening c code id d room) r out out
   aes_open_refused e out {r} q h = rw aes_open_steps (row_meets (aes_open_rows (length id) (length c) (length d)) (aes_trying c code id d room) e out q h)
+
+  -- told before anything is decrypted
+  pub aes_open_not_checked : (e : Refusal) {r : Result (List ℕ × ℕ × Bor (List ℕ) × List ℕ) Refusal} → r ≡ Err e → first_of (aes_open_rows (length id) (length c) (length d)) ≡ refusal_number e → ChecksOpenAes id c d r
+  aes_open_not_checked e {r} q h = rw q h
+
+  -- and decides
+  pub aes_open_refuses : (k : ℕ) → k ≡ first_of (aes_open_rows (length id) (length c) (length d)) → (k ≡ 0 → ⊥) → aes_opening c code id d room ≡ refused k
+  aes_open_refuses k e h = aes_open_steps ∙ first_refuses (aes_open_rows (length id) (length c) (length d)) (aes_trying c code id d room) k e h
 
   -- what the reader of its parts answered
   pub aes_open_split : (e : Refusal) → length id ≡ 6 → length c ≡ 36 → (10 ≤ length d → (253 < length d) × (e ≡ TooLong)) × (length d < 10 → e ≡ TooShort)

@@ -1,18 +1,24 @@
 -- AES sealing, step by step: IV, MAC, and the sealed data over the front of an output. Assumes nothing.
 use mathlib.Core.Path.{◌≡◌, refl, sym, ap, ◌∙◌}
 use mathlib.Core.List.{List, [], ◌∷◌, ◌++◌, append_assoc}
-use Prim.Native.Nat.{ℕ, ◌+◌, ◌-◌, ◌/◌, ◌%◌, ◌≤◌}
+use Prim.Native.Nat.{ℕ, ◌+◌, ◌-◌, ◌/◌, ◌%◌, ◌≤◌, ◌<◌}
 use native.Mathlib.Omega.{arith}
-use lib.Dec.{ltb}
+use borrow.Author.Tests.{ltb-false}
+use lib.Dec.{eqb, ltb}
 use lib.ListN.{length, take, drop, take-append-drop, set, replicate, length-append, length-drop, drop_of_length-le}
 use lib.Seq.{take_at, drop_at, drop-drop, take_all}
 use Rattle.cipher.specs.Fips197.{aes_encrypt}
 use Rattle.cipher.specs.Sp80038a.{blocks, ofb, ofb_input}
 use Rattle.cipher.specs.Sp80038b.{cmac, R128}
+use Rattle.std.specs.Prelude.{Result, Err}
+use Rattle.answer.specs.declared.refusal.Refusal.{Refusal}
+use Rattle.answer.specs.Refusal.{refusal_number}
 use Rattle.answer.specs.Number.{number_bytes}
 use Rattle.frame.specs.declared.v2_aes.Credentials.{Credentials}
-use Rattle.frame.specs.inner.AesSteps.{bytes_of}
-use Rattle.answer.specs.Outcome.{over, accepted, row, decide}
+use Rattle.frame.specs.inner.AesSteps.{bytes_of, ChecksAes}
+use Rattle.answer.specs.Outcome.{over, accepted, row, decide, first_of}
+use Rattle.answer.specs.Tests.{isnt, both}
+use Rattle.answer.proofs.Rows.{AllFalse, numbered, first_passes, either_false, is_number}
 use Rattle.frame.specs.AesFrame.{cipher_key, mac_key, challenge_3c, aes_iv, aes_mac, mac_input, aes_sealed, aes_size, aes_sealing, aes_seal_rows}
 use Rattle.answer.proofs.Outputs.{placed_over}
 use Rattle.answer.proofs.Pieces.{placed_next, copied_next, last_piece, put_again}
@@ -24,10 +30,10 @@ with_part s n k b = take n s ++ (b ++ drop k (drop n s))
 -- ---- the credentials
 
 -- their three parts are all of their bytes
-pub read_whole : (s all k m c : List ℕ) → length s ≡ 36 → all ≡ s → k ≡ take 16 all → m ≡ take 16 (drop 16 all) → c ≡ take 4 (drop 32 all) → k ++ (m ++ c) ≡ s
-read_whole s all k m c h e ek em ec =
+pub read_whole : (s k m c : List ℕ) → length s ≡ 36 → k ≡ take 16 s → m ≡ take 16 (drop 16 s) → c ≡ take 4 (drop 32 s) → k ++ (m ++ c) ≡ s
+read_whole s k m c h ek em ec =
     let f : length (drop 32 s) ≤ 4 = omega (arith, length-drop 32 s) in
-    rw (ek, em, ec, e, take_all 4 (drop 32 s) f) (rw (← drop-drop 16 16 s, take-append-drop 16 (drop 16 s)) (take-append-drop 16 s))
+    rw (ek, em, ec, take_all 4 (drop 32 s) f) (rw (← drop-drop 16 16 s, take-append-drop 16 (drop 16 s)) (take-append-drop 16 s))
 
 -- each of them is found in the bytes
 module _ (k : Credentials) (lc : length k.cipher_key ≡ 16) (lm : length k.mac_key ≡ 16) where
@@ -107,6 +113,28 @@ module _ (code number : ℕ) (id c payload out : List ℕ) (room : length payloa
       let e : (num ++ l₃) ++ mac' ≡ aes_sealed c code number id payload = append_assoc num l₃ mac' ∙ rw (h₃, h₄, f, em, emk, ek, eiv, e3) in
       let k : n + 10 ≡ length ((num ++ l₃) ++ mac') = omega (arith, length-append (num ++ l₃) mac') in
       (k ∙ ap length e, w₄ ∙ ap (λ (z : List ℕ). over z out) e)
+
+-- what holds where no row by lengths does
+pub record AesSealable (id c payload : ℕ) : Type 0 where
+  pub rows : AllFalse (aes_seal_rows id c payload)
+  pub six : id ≡ 6
+  pub all : c ≡ 36
+  pub short : payload ≤ 243
+  pub some : 0 < aes_size payload
+  pub fits : aes_size payload ≤ 253
+
+-- none does where the number of the first that does is 0
+pub aes_seal_passes : (id c payload k : ℕ) → k ≡ first_of (aes_seal_rows id c payload) → k ≡ 0 → AesSealable id c payload
+unfolding aes_seal_rows aes_size numbered both
+aes_seal_passes id c payload k e z =
+    let a = first_passes (aes_seal_rows id c payload) k refl e z in
+    let f = either_false (isnt (eqb id 6)) (isnt (eqb c 36)) a.0 in
+    let h = ltb-false 243 payload a.1.0 in
+    record { rows = a; six = is_number id 6 f.0; all = is_number c 36 f.1; short = h; some = omega arith; fits = omega arith }
+
+-- a row by lengths holds
+pub aes_not_checked : (id c : List ℕ) (n : ℕ) (e : Refusal) {r : Result (List ℕ × Credentials) Refusal} → r ≡ Err e → first_of (aes_seal_rows (length id) (length c) n) ≡ refusal_number e → ChecksAes id c n r
+aes_not_checked id c n e {r} q h = rw q h
 
 -- the rows by lengths alone, then 16
 pub aes_seal_steps : (c id payload : List ℕ) (code number room : ℕ)

@@ -4,23 +4,23 @@ use mathlib.Core.Bool.{Bool, true, false}
 use mathlib.Core.List.{List, [], ◌∷◌, ◌++◌}
 use Prim.Native.Nat.{ℕ, ◌+◌, ◌-◌, ◌%◌, ◌≤◌, ◌<◌}
 use native.Mathlib.Omega.{arith}
-use borrow.Author.Tests.{le-ltb}
-use lib.Dec.{ltb, lit<}
+use borrow.Author.Tests.{le-ltb, ltb-false}
+use lib.Dec.{eqb, ltb, lit<}
 use lib.ListN.{length, take, drop, length-drop}
 use lib.Seq.{take_all}
 use Rattle.cipher.specs.Fips46.{des_decrypt}
 use Rattle.cipher.specs.Fold.{under_each_back}
 use Rattle.answer.specs.Number.{number_of}
-use Rattle.std.specs.Prelude.{Err}
+use Rattle.std.specs.Prelude.{Result, Err}
 use Rattle.answer.specs.declared.refusal.Refusal.{Refusal}
 use Rattle.answer.specs.Refusal.{refusal_number}
 use Rattle.answer.specs.Outcome.{Answer, Meets, Row, row, acceptance, accepted, decide, choose, refused, first_of}
 use Rattle.answer.specs.Delivery.{handing, delivering, Delivers}
 use Rattle.frame.specs.DesFrame.{mac_start, recovered, mac_holds, des_plain, payload_of, des_opening, open_rows, plain_rows}
-use Rattle.frame.specs.inner.DesSteps.{des_accepting}
+use Rattle.frame.specs.inner.DesSteps.{ChecksOpenDes, des_accepting}
 use Rattle.frame.specs.inner.Response.{checked_delivering, parsed_delivering}
-use Rattle.answer.specs.Tests.{isnt, same}
-use Rattle.answer.proofs.Rows.{AllFalse, both_right, right_length, row_meets, decided_meets}
+use Rattle.answer.specs.Tests.{isnt, both, same}
+use Rattle.answer.proofs.Rows.{AllFalse, numbered, first_passes, either_false, is_number, both_right, right_length, row_meets, decided_meets}
 use Rattle.answer.proofs.Pieces.{no_longer}
 use Rattle.cipher.proofs.Folds.{back_none}
 use Rattle.answer.proofs.Equality.{same_is}
@@ -52,6 +52,11 @@ stripped plain p e =
     let l : length (drop 8 plain) - 8 ≡ length plain - 16 = rw length-drop (omega arith) in
     e ∙ rw (rest_part plain 8, l)
 
+-- and how long it is at most
+pub short_payload : (plain p : List ℕ) → p ≡ payload_of plain → length plain ≤ 256 → length p ≤ 256
+unfolding payload_of
+short_payload plain p e h = no_longer (length plain - 16) 256 (drop 8 plain) p e (rw length-drop (omega arith))
+
 -- the row of the MAC, before what is left of an opening
 module _ (code room : ℕ) (id plain : List ℕ) where
   pub wrong_mac : mac_holds code plain ≡ false → des_accepting code id plain room ≡ refused 13
@@ -79,6 +84,30 @@ pub open_none : (id key sealed : ℕ) → id ≡ 6 → key ≡ 8 → sealed % 8 
 unfolding open_rows
 open_none id key sealed i k w m s = (both_right id key 6 8 i k, (right_length (sealed % 8) 0 w, (le-ltb sealed 16 m, (le-ltb 253 sealed s, tt))))
 
+-- the other way round: what the lengths are where none holds
+pub record Openable (id key sealed : ℕ) : Type 0 where
+  pub rows : AllFalse (open_rows id key sealed)
+  pub six : id ≡ 6
+  pub eight : key ≡ 8
+  pub blocks : sealed % 8 ≡ 0
+  pub enough : 16 ≤ sealed
+  pub short : sealed ≤ 253
+
+-- none does where the number of the first that does is 0
+pub open_passes : (id key sealed k : ℕ) → k ≡ first_of (open_rows id key sealed) → k ≡ 0 → Openable id key sealed
+unfolding open_rows numbered both
+open_passes id key sealed k e z =
+    let a = first_passes (open_rows id key sealed) k refl e z in
+    let b = either_false (isnt (eqb id 6)) (isnt (eqb key 8)) a.0 in
+    record {
+      rows = a;
+      six = is_number id 6 b.0;
+      eight = is_number key 8 b.1;
+      blocks = is_number (sealed % 8) 0 a.1.0;
+      enough = ltb-false sealed 16 a.1.1.0;
+      short = ltb-false 253 sealed a.1.1.1.0;
+    }
+
 -- what is left of an opening goes out with its length
 pub accepting_meets : (code : ℕ) (id plain : List ℕ) (room : ℕ) {r : Answer} {before after : List ℕ} → Delivers (des_accepting code id plain room) r before after → length plain ≤ 65535 → Meets (des_accepting code id plain room) r before after
 unfolding des_accepting payload_of
@@ -94,6 +123,10 @@ open_steps key id sealed code room = refl
 pub open_refused : (key id sealed : List ℕ) (code room : ℕ) (e : Refusal) (out : List ℕ) {r : Answer} → r ≡ Err e → first_of (open_rows (length id) (length key) (length sealed)) ≡ refusal_number e
     → Meets (des_opening key code id sealed room) r out out
 open_refused key id sealed code room e out {r} q h = rw (open_steps key id sealed code room) (row_meets (open_rows (length id) (length key) (length sealed)) (des_accepting code id (des_plain key sealed) room) e out q h)
+
+-- a refusal by the lengths, told before anything is decrypted
+pub open_not_checked : (id key : List ℕ) (n : ℕ) (e : Refusal) {r : Result (List ℕ × List ℕ) Refusal} → r ≡ Err e → first_of (open_rows (length id) (length key) n) ≡ refusal_number e → ChecksOpenDes id key n r
+open_not_checked id key n e {r} q h = rw q h
 
 -- all rows in one list
 module _ (key id sealed : List ℕ) (code room : ℕ) where

@@ -1,15 +1,23 @@
 -- DES sealing, step by step: padding, MAC and encryption over the front of an output. Assumes nothing.
 use mathlib.Core.Path.{◌≡◌, refl, sym, ap, ◌∙◌}
 use mathlib.Core.List.{List, [], ◌∷◌, ◌++◌}
-use Prim.Native.Nat.{ℕ, suc, ◌+◌, ◌-◌, ◌%◌, ◌≤◌}
+use Prim.Native.Nat.{ℕ, suc, ◌+◌, ◌-◌, ◌%◌, ◌≤◌, ◌<◌}
 use native.Mathlib.Omega.{arith}
-use lib.Dec.{ltb}
+use borrow.Author.Tests.{ltb-false}
+use lib.Dec.{eqb, ltb}
 use lib.ListN.{length, take, drop, replicate, length-append}
 use lib.Seq.{length-take-le}
 use Rattle.cipher.specs.Fips46.{des_encrypt}
 use Rattle.cipher.specs.Sp80038a.{cbc_encrypt, on_whole}
 use Rattle.cipher.proofs.Copies.{length_part}
-use Rattle.answer.specs.Outcome.{over, padded, row, decide}
+use Rattle.std.specs.Prelude.{Result, Err}
+use Rattle.answer.specs.declared.refusal.Refusal.{Refusal}
+use Rattle.answer.specs.Refusal.{refusal_number}
+use Rattle.frame.specs.declared.des.SecureResponseHeader.{SecureResponseHeader}
+use Rattle.frame.specs.inner.DesSteps.{ChecksDes}
+use Rattle.answer.specs.Outcome.{over, padded, row, decide, first_of}
+use Rattle.answer.specs.Tests.{isnt, both}
+use Rattle.answer.proofs.Rows.{AllFalse, numbered, first_passes, either_false, is_number}
 use Rattle.frame.specs.Padding.{pad_count, pad}
 use Rattle.frame.specs.DesFrame.{des_mac, des_seal, header, des_sealed, des_size, des_sealing, seal_rows}
 use Rattle.answer.proofs.Outputs.{front, over_self, over_over, filled_behind}
@@ -85,6 +93,28 @@ written_des code number r key id payload o s s' six e h =
     let l : length (header number id ++ payload) ≡ length payload + 8 = length-append (header number id) payload ∙ omega arith in
     let q = sealed_over code (length payload + 8) r key (header number id ++ payload) o s s' l e h in
     (h.0, sym h.0 ∙ q.0, q.1)
+
+-- what holds where no row by lengths does
+pub record Sealable (id key payload : ℕ) : Type 0 where
+  pub rows : AllFalse (seal_rows id key payload)
+  pub six : id ≡ 6
+  pub eight : key ≡ 8
+  pub short : payload ≤ 232
+  pub some : 0 < des_size payload
+  pub fits : des_size payload ≤ 248
+
+-- none does where the number of the first that does is 0
+pub seal_passes : (id key payload k : ℕ) → k ≡ first_of (seal_rows id key payload) → k ≡ 0 → Sealable id key payload
+unfolding seal_rows numbered both des_size
+seal_passes id key payload k e z =
+    let a = first_passes (seal_rows id key payload) k refl e z in
+    let b = either_false (isnt (eqb id 6)) (isnt (eqb key 8)) a.0 in
+    let h = ltb-false 232 payload a.1.0 in
+    record { rows = a; six = is_number id 6 b.0; eight = is_number key 8 b.1; short = h; some = omega arith; fits = size_most payload h }
+
+-- a row by lengths holds
+pub not_checked : (number : ℕ) (id key : List ℕ) (n : ℕ) (e : Refusal) {r : Result (SecureResponseHeader × List ℕ) Refusal} → r ≡ Err e → first_of (seal_rows (length id) (length key) n) ≡ refusal_number e → ChecksDes number id key n r
+not_checked number id key n e {r} q h = rw q h
 
 -- the rows by lengths alone, then 16
 pub seal_steps : (key id payload : List ℕ) (code number room : ℕ)

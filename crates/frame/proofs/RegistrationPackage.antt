@@ -1,9 +1,10 @@
 -- Registration packages, step by step. Assumes nothing.
-use mathlib.Core.Path.{◌≡◌, sym, ap, ◌∙◌}
+use mathlib.Core.Path.{◌≡◌, refl, sym, ap, ◌∙◌}
 use mathlib.Core.List.{List, ◌++◌}
 use Prim.Native.Nat.{ℕ, ◌+◌, ◌-◌, ◌%◌, ◌≤◌, ◌<◌}
 use native.Mathlib.Omega.{arith}
-use borrow.Author.Tests.{eq-eqb, ne_eqb, lt-ltb, le-ltb}
+use borrow.Author.Tests.{eq-eqb, eqb-false, ne_eqb, lt-ltb, le-ltb, ltb-false}
+use lib.Dec.{eqb}
 use Rattle.std.specs.Prelude.{◌≢◌}
 use lib.ListN.{length, take, drop, replicate, length-append, length-drop}
 use lib.Seq.{take_at, drop-append-le}
@@ -13,8 +14,8 @@ use Rattle.cipher.specs.Sp80038a.{cbc_encrypt, on_whole}
 use Rattle.cipher.proofs.Xor.{complement_is}
 use Rattle.answer.specs.Outcome.{choose, first_of, over}
 use Rattle.frame.specs.Package.{package_cipher, package_mac, packaged, package_rows}
-use Rattle.answer.specs.Tests.{isnt, either}
-use Rattle.answer.proofs.Rows.{AllFalse, right_length}
+use Rattle.answer.specs.Tests.{isnt, either, both}
+use Rattle.answer.proofs.Rows.{AllFalse, numbered, first_passes, either_false, is_number, right_length}
 use Rattle.answer.proofs.Refusals.{either_of}
 use Rattle.frame.proofs.Fronts.{in_place, copied_in_place}
 use Rattle.answer.proofs.Outputs.{copied_over, over_over}
@@ -26,6 +27,32 @@ pub package_none : (key plain room : ℕ) → key ≡ 8 → plain ≢ 0 → plai
 unfolding package_rows
 package_none key plain room k n w s f =
     (right_length key 8 k, (either_of _ _ (ne_eqb plain 0 n) (right_length (plain % 8) 0 w), (le-ltb 4096 plain s, (le-ltb room (plain + 8) f, tt))))
+
+-- the other way round: what the lengths are where none holds
+pub record Packable (key plain room : ℕ) : Type 0 where
+  pub rows : AllFalse (package_rows key plain room)
+  pub eight : key ≡ 8
+  pub blocks : plain % 8 ≡ 0
+  pub some : 8 ≤ plain
+  pub short : plain ≤ 4096
+  pub fits : plain + 8 ≤ room
+
+-- none does where the number of the first that does is 0
+pub package_passes : (key plain room k : ℕ) → k ≡ first_of (package_rows key plain room) → k ≡ 0 → Packable key plain room
+unfolding package_rows numbered both
+package_passes key plain room k e z =
+    let a = first_passes (package_rows key plain room) k refl e z in
+    let b = either_false (eqb plain 0) (isnt (eqb (plain % 8) 0)) a.1.0 in
+    let w : plain % 8 ≡ 0 = is_number (plain % 8) 0 b.1 in
+    let n : plain ≡ 0 → ⊥ = eqb-false plain 0 b.0 in
+    record {
+      rows = a;
+      eight = is_number key 8 a.0;
+      blocks = w;
+      some = omega (arith, n);
+      short = ltb-false 4096 plain a.1.1.0;
+      fits = ltb-false room (plain + 8) a.1.1.1.0;
+    }
 
 module _ (key plain room : ℕ) (eight : key ≡ 8) where
   -- row 10

@@ -1,4 +1,4 @@
--- Sealed AES data: number 2 (low byte first), cipher payload, cipher MAC 8. Assumes nothing.
+-- docs/RULES.md, Layouts: sealed AES data is number 2 (low byte first), cipher payload, cipher MAC 8. Assumes nothing.
 use Rattle.std.specs.Prelude.{ℕ, ◌+◌, ◌-◌, ◌/◌, ◌%◌, List, [], ◌∷◌, ◌++◌, eqb, ltb, length, take, drop}
 use Rattle.cipher.specs.Fips197.{aes_encrypt}
 use Rattle.cipher.specs.Sp80038a.{blocks, ofb, ofb_input}

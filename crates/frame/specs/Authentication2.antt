@@ -1,5 +1,5 @@
--- Authentication 2. DES: a payload to which no header is added, sealed under code 0x13; its opening
--- gives all but the MAC, padding too. AES: sealed data under code 0x43. Assumes nothing.
+-- docs/RULES.md, Corners (des.rs), Carried and added: Authentication 2. DES: a payload to which no header is added, sealed under code 0x13; its
+-- opening gives all but the MAC, padding too. AES: sealed data under code 0x43. Assumes nothing.
 use Rattle.std.specs.Prelude.{ℕ, ◌+◌, ◌-◌, ◌%◌, List, [], ◌∷◌, ◌++◌, eqb, ltb, length, take}
 use Rattle.answer.specs.Outcome.{Outcome, Row, padded, row, decide}
 use Rattle.frame.specs.AesFrame.{aes_opening}

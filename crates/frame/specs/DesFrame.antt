@@ -1,4 +1,5 @@
--- Sealed DES data: number 2 (low byte first), ID 6, payload, padding, MAC 8; in CBC with an IV of zeros. Assumes nothing.
+-- docs/RULES.md, Layouts, Corners (des.rs): sealed DES data is number 2 (low byte first), ID 6, payload, padding, MAC 8; in CBC with an IV of zeros.
+-- Assumes nothing.
 use Rattle.std.specs.Prelude.{ℕ, ◌+◌, ◌-◌, ◌%◌, Bool, List, [], ◌∷◌, ◌++◌, eqb, ltb, length, take, drop, replicate}
 use Rattle.cipher.specs.Fips46.{des_encrypt, des_decrypt}
 use Rattle.cipher.specs.Fold.{under_each, under_each_back}

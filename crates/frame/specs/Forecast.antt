@@ -1,5 +1,5 @@
--- The size forecast: the size that a payload of n bytes has once it is sealed as a command, without length byte and code (docs/GUIDE.md,
--- Buffers). Assumes nothing.
+-- docs/RULES.md, Carried and added (size forecast): the size that a payload of n bytes has once it is sealed as a command, without length byte
+-- and code (docs/GUIDE.md, Buffers). Assumes nothing.
 use Rattle.std.specs.Prelude.{ℕ, ◌+◌, ◌*◌, ◌/◌, List, [], ◌∷◌, eqb, ltb}
 use Rattle.answer.specs.Outcome.{Row, row, choose, first_of}
 use Rattle.answer.specs.Tests.{isnt, either}

@@ -1,4 +1,4 @@
--- Opening exactly inverts sealing: what that says, for a scheme, credentials, an ID and a code. Assumes nothing.
+-- docs/RULES.md, Statement 3: opening exactly inverts sealing; what that says, for a scheme, credentials, an ID and a code. Assumes nothing.
 use Rattle.std.specs.Prelude.{◌≡◌, List, ◌↔◌, ℕ, ◌%◌, ◌≤◌, ◌<◌, length}
 use Rattle.cipher.specs.Bytes.{Bytes}
 use Rattle.answer.specs.Outcome.{refused, accepted}

@@ -1,4 +1,4 @@
--- Registration packages: the last CBC block under the complemented key is appended, then CBC under the key, both IVs
+-- docs/RULES.md, Layouts: in a registration package the last CBC block under the complemented key is appended, then CBC under the key, both IVs
 -- zero. Assumes nothing.
 use Rattle.std.specs.Prelude.{ℕ, ◌+◌, ◌-◌, ◌%◌, List, [], ◌∷◌, ◌++◌, eqb, ltb, length, drop, replicate}
 use Rattle.cipher.specs.Bytes.{complement}

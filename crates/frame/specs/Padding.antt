@@ -1,4 +1,5 @@
--- Padding: a string that is not whole blocks of 8 bytes gains what is missing, and each byte added is their count. Assumes nothing.
+-- docs/RULES.md, Corners (primitives.rs): a string that is not whole blocks of 8 bytes gains what is missing, and each byte added is their count.
+-- Assumes nothing.
 use Rattle.std.specs.Prelude.{ℕ, ◌-◌, ◌%◌, List, ◌++◌, length, replicate}
 
 -- the count of bytes added to n

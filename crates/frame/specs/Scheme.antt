@@ -1,5 +1,5 @@
--- Both schemes, and response frames. A scheme mark is 1 for DES and 2 for AES, and every other gives 17 (docs/NUMBERS.md). The credentials are
--- the DES session key, or cipher key, MAC key and Challenge 3C. Assumes nothing.
+-- docs/NUMBERS.md (marks) and docs/RULES.md, Layouts (response frames): both schemes. A scheme mark is 1 for DES and 2 for AES, and every other
+-- gives 17. The credentials are the DES session key, or cipher key, MAC key and Challenge 3C. Assumes nothing.
 use Rattle.std.specs.Prelude.{ℕ, ◌+◌, ◌-◌, List, ◌∷◌, eqb, length}
 use Rattle.answer.specs.Outcome.{Outcome, refused, padded, choose}
 use Rattle.frame.specs.DesFrame.{des_size, des_sealed, des_sealing, des_opening}

@@ -1,5 +1,5 @@
--- The trimmed DES opening: if the payload's last byte v is 1..7 and its last v bytes all equal v, they are dropped. Its rows are those of the
--- opening, with 16 about the trimmed payload. Assumes nothing.
+-- docs/RULES.md, Carried and added: in the trimmed DES opening, if the payload's last byte v is 1..7 and its last v bytes all equal v, they are
+-- dropped. Its rows are those of the opening, with 16 about the trimmed payload. Assumes nothing.
 use Rattle.std.specs.Prelude.{ℕ, ◌-◌, Bool, List, ◌++◌, ltb, length, take, drop, replicate, get_or}
 use Rattle.answer.specs.Delivery.{delivering}
 use Rattle.answer.specs.Number.{number_of}

@@ -4,8 +4,8 @@ ghost use Rattle.std.specs.Prelude.{◌≡◌, true, ◌+◌, ◌-◌, ◌%◌, 
 ghost use Rattle.answer.specs.Delivery.{Delivers};
 ghost use Rattle.answer.specs.Outcome.{Meets, choose, over};
 ghost use Rattle.frame.specs.Padding.{pad_count, pad};
-ghost use Rattle.frame.specs.DesFrame.{mac_start, des_mac, mac_holds, des_seal, header, des_sealed, des_size, seal_rows, des_sealing, des_plain, des_opening};
-ghost use Rattle.frame.specs.inner.DesSteps.{des_accepting};
+ghost use Rattle.frame.specs.DesFrame.{mac_start, des_mac, mac_holds, des_seal, header, des_sealed, des_size, des_sealing, des_plain, des_opening};
+ghost use Rattle.frame.specs.inner.DesSteps.{ChecksDes, ChecksOpenDes, des_accepting};
 ghost use Rattle.frame.specs.inner.Response.{header_of, PayloadIn, ParsesOr13, checked_delivering};
 ghost use Rattle.frame.specs.inner.WorkBlock.{HasSize, SealsInto};
 ghost use Rattle.frame.specs.Authentication2.{auth2_sealing, auth2_accepting, auth2_opening};
@@ -179,6 +179,24 @@ fn accept_des(code: u8, id: [u8; 6], plain: &[u8], out: &mut [u8]) -> Answer
     SecureResponse::parse(code, plain)?.deliver(id, out)
 }
 
+// ID and key of an opening of n bytes, if no row by lengths refuses it: 17, 10, 11, 12.
+fn check_open_des(id: &[u8], key: &[u8], n: usize) -> Result<([u8; 6], [u8; 8]), Refusal>
+    ensures { ChecksOpenDes id.now key.now n result }
+{
+    let id = answer::exact::<6>(id)?;
+    let key = answer::exact::<8>(key)?;
+    if n % 8 != 0 {
+        return Err(Refusal::NotWholeBlocks);
+    }
+    if n < 16 {
+        return Err(Refusal::TooShort);
+    }
+    if SEALED_MAX < n {
+        return Err(Refusal::TooLong);
+    }
+    Ok((id, key))
+}
+
 // Opens a sealed command or response. The trial plain text stands in a work block, so that a refusal shows none of it.
 pub fn decrypt_secure_response_des(
     code: u8,
@@ -189,18 +207,8 @@ pub fn decrypt_secure_response_des(
 ) -> Answer
     ensures { Meets (des_opening key.now code id.now «data».now (length out.old)) result out.old out.new }
 {
-    let id = answer::exact::<6>(id)?;
-    let key = answer::exact::<8>(key)?;
     let n = data.len();
-    if n % 8 != 0 {
-        return Err(Refusal::NotWholeBlocks);
-    }
-    if n < 16 {
-        return Err(Refusal::TooShort);
-    }
-    if SEALED_MAX < n {
-        return Err(Refusal::TooLong);
-    }
+    let (id, key) = check_open_des(id, key, n)?;
     let mut work = [0u8; 256];
     decrypt_over(key, data, &mut work);
     accept_des(code, id, &work[..n], out)
@@ -344,6 +352,26 @@ pub(crate) fn size_des(n: usize) -> Result<usize, Refusal>
     Ok((n + 8).next_multiple_of(8) + 8)
 }
 
+// Tests the lengths of a sealing, 17 before 12, and then has its header and its key. A caller clears its work block after this, so that a refusal
+// does not cost it.
+fn check_des(
+    number: u16,
+    id: &[u8],
+    key: &[u8],
+    payload: &[u8],
+) -> Result<(SecureResponseHeader, [u8; 8]), Refusal>
+    ensures { ChecksDes number id.now key.now (length payload.now) result }
+{
+    let head = SecureResponseHeader {
+        transaction_number: number,
+        transaction_id: answer::exact::<6>(id)?,
+    };
+    let key = answer::exact::<8>(key)?;
+    // 12; what is written has its own size
+    size_des(payload.len())?;
+    Ok((head, key))
+}
+
 // Writes a sealed payload over the front of out. All work is done in out.
 fn write_des(
     code: u8,
@@ -354,35 +382,11 @@ fn write_des(
 ) -> Sealed
     requires payload_len_bound { length payload.now ≤ 232 }
     requires payload_in_bounds { des_size (length payload.now) ≤ length out.old }
-    ensures size { (result.size ≡ des_size (length payload.now)) × (des_size (length payload.now) ≡ length (des_sealed key code head.transaction_number head.transaction_id payload.now)) }
-    ensures padding { result.padding ≡ pad_count (length payload.now + 8) }
-    ensures out_after { out.new ≡ over (des_sealed key code head.transaction_number head.transaction_id payload.now) out.old }
+    ensures { SealsInto (des_sealed key code head.transaction_number head.transaction_id payload.now) (des_size (length payload.now)) (pad_count (length payload.now + 8)) result out.old out.new }
 {
     head.write(out);
     cipher::copy(payload, &mut out[8..]);
     seal_front(code, key, out, payload.len() + 8)
-}
-
-// Seals a command or a response with its number and ID under the session key, over the front of a work block, if the lengths are right.
-fn seal_des(
-    code: u8,
-    number: u16,
-    id: &[u8],
-    key: &[u8],
-    payload: &[u8],
-    work: &mut [u8],
-) -> Result<Sealed, Refusal>
-    requires { 248 ≤ length work.old }
-    ensures { SealsInto (seal_rows (length id.now) (length key.now) (length payload.now)) (des_sealed key.now code number id.now payload.now) (des_size (length payload.now)) (pad_count (length payload.now + 8)) result work.old work.new }
-{
-    let head = SecureResponseHeader {
-        transaction_number: number,
-        transaction_id: answer::exact::<6>(id)?,
-    };
-    let key = answer::exact::<8>(key)?;
-    // 12; what is written has its own size
-    size_des(payload.len())?;
-    Ok(write_des(code, head, key, payload, work))
 }
 
 // Seals a command or a response with its transaction number and ID under the session key, in a work block. The answer has size and padding.
@@ -396,8 +400,9 @@ pub fn encrypt_secure_request_des(
 ) -> Answer
     ensures { Meets (des_sealing key.now code number id.now payload.now (length out.old)) result out.old out.new }
 {
+    let (head, key) = check_des(number, id, key, payload)?;
     let mut work = [0u8; 256];
-    let sealed = seal_des(code, number, id, key, payload, &mut work)?;
+    let sealed = write_des(code, head, key, payload, &mut work);
     answer::deliver(0, sealed.padding, &work[..sealed.size], out)
 }
 
@@ -412,8 +417,9 @@ pub fn build_secure_response_frame_des(
 ) -> Answer
     ensures { Meets (responding 1 key.now code number id.now payload.now (length out.old)) result out.old out.new }
 {
+    let (head, key) = check_des(number, id, key, payload)?;
     let mut work = [0u8; 256];
-    let sealed = seal_des(code, number, id, key, payload, &mut work[2..])?;
+    let sealed = write_des(code, head, key, payload, &mut work[2..]);
     let end = command::frame_with_length_prefix(code, sealed.size, &mut work);
     answer::deliver(0, sealed.padding, &work[..end], out)
 }

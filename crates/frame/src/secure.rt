@@ -8,10 +8,8 @@ ghost use Rattle.frame.specs.Scheme.{sealing, opening, responding};
 use crate::{des, v2_aes};
 use answer::{Accepted, Answer, Scheme};
 
-// Scheme marks, as callers pass them: those of answer::Scheme. A key's algorithm has the same numbers.
-pub const DES: u8 = 1;
-
-pub const AES128: u8 = 2;
+// Scheme marks, as callers pass them.
+pub use answer::{AES128, DES};
 
 // Seals a command; the answer has its size and its padding. The credentials are the session key for DES; cipher key, MAC key and Challenge 3C
 // for AES.

@@ -4,12 +4,12 @@
 ghost use Rattle.std.specs.Prelude.{◌≡◌, ◌+◌, ◌≤◌, ◌++◌, length};
 ghost use Rattle.answer.specs.Delivery.{Delivers};
 ghost use Rattle.answer.specs.Number.{number_bytes};
-ghost use Rattle.answer.specs.Outcome.{Meets, over};
-ghost use Rattle.frame.specs.inner.AesSteps.{bytes_of, ReadFrom, Splits, aes_accepting, aes_trying};
+ghost use Rattle.answer.specs.Outcome.{Meets};
+ghost use Rattle.frame.specs.inner.AesSteps.{bytes_of, HasAll, ChecksAes, ChecksOpenAes, Splits, aes_accepting, aes_trying};
 ghost use Rattle.frame.specs.inner.WorkBlock.{HasSize, SealsInto};
 ghost use Rattle.frame.specs.Authentication2.{auth2_opening_aes};
 ghost use Rattle.frame.specs.Scheme.{responding};
-ghost use Rattle.frame.specs.AesFrame.{aes_iv, aes_mac, aes_sealed, aes_size, aes_seal_rows, aes_sealing, aes_opening};
+ghost use Rattle.frame.specs.AesFrame.{aes_iv, aes_mac, aes_sealed, aes_size, aes_sealing, aes_opening};
 
 use crate::command;
 use crate::sealed::Sealed;
@@ -20,6 +20,8 @@ const AUTHENTICATION2_CODE: u8 = 0x43;
 // The longest payload.
 const PAYLOAD_MAX: usize = 243;
 
+const CREDENTIALS_LENGTH: usize = 36;
+
 // What a session with AES seals and opens under: 36 bytes.
 #[derive(Clone, Copy)]
 pub(crate) struct Credentials {
@@ -29,15 +31,25 @@ pub(crate) struct Credentials {
 }
 
 impl Credentials {
-    fn parse(bytes: &[u8]) -> Result<Self, Refusal>
-        ensures { ReadFrom bytes.now result }
+    // Tests their length alone: they are read once all lengths were tested.
+    fn check(bytes: &[u8]) -> Result<(), Refusal>
+        ensures { HasAll bytes.now result }
     {
-        let all = answer::exact::<36>(bytes)?;
-        Ok(Credentials {
-            cipher_key: answer::fit(&all[..16]),
-            mac_key: answer::fit(&all[16..32]),
-            challenge_3c: answer::fit(&all[32..]),
-        })
+        if bytes.len() != CREDENTIALS_LENGTH {
+            return Err(Refusal::BadMarkOrLength);
+        }
+        Ok(())
+    }
+
+    fn parse(bytes: &[u8]) -> Self
+        requires { length bytes.now ≡ 36 }
+        ensures { bytes_of result ≡ bytes.now }
+    {
+        Credentials {
+            cipher_key: answer::fit(&bytes[..16]),
+            mac_key: answer::fit(&bytes[16..32]),
+            challenge_3c: answer::fit(&bytes[32..36]),
+        }
     }
 }
 
@@ -89,7 +101,24 @@ pub(crate) fn size_aes(n: usize) -> Result<usize, Refusal>
     Ok(n + 10)
 }
 
-// Writes the sealed data over the front of out. The payload is encrypted in out, and its MAC before it goes there.
+// Tests the lengths of a sealing, 17 before 12, and then reads ID and credentials: cipher key, MAC key and Challenge 3C. A caller clears its work
+// block after this, so that a refusal costs neither.
+fn check_aes(
+    id: &[u8],
+    credentials: &[u8],
+    payload: &[u8],
+) -> Result<([u8; 6], Credentials), Refusal>
+    ensures { ChecksAes id.now credentials.now (length payload.now) result }
+{
+    let id = answer::exact::<6>(id)?;
+    Credentials::check(credentials)?;
+    // 12; what is written has its own size
+    size_aes(payload.len())?;
+    Ok((id, Credentials::parse(credentials)))
+}
+
+// Writes the sealed data over the front of out. The payload is encrypted in out, and its MAC before it goes there. A stream cipher needs no whole
+// blocks, so nothing is padded.
 fn write_aes(
     code: u8,
     number: u16,
@@ -97,40 +126,21 @@ fn write_aes(
     credentials: Credentials,
     payload: &[u8],
     out: &mut [u8],
-)
+) -> Sealed
     requires payload_len_bound { length payload.now ≤ 243 }
     requires payload_in_bounds { length payload.now + 10 ≤ length out.old }
-    ensures size { aes_size (length payload.now) ≡ length (aes_sealed (bytes_of credentials) code number id payload.now) }
-    ensures out_after { out.new ≡ over (aes_sealed (bytes_of credentials) code number id payload.now) out.old }
+    ensures { SealsInto (aes_sealed (bytes_of credentials) code number id payload.now) (aes_size (length payload.now)) 0 result out.old out.new }
 {
     let n = payload.len();
     let end = n + 2;
+    let size = n + 10;
     let iv = build_initial_vector_v2_aes128(n, code, number, id, credentials.challenge_3c);
     let mut mac = calculate_mac_v2_aes128(iv, payload, credentials.mac_key);
     out[..2].copy_from_slice(&number.to_le_bytes());
     cipher::copy(payload, &mut out[2..end]);
     cipher::apply_aes128_ofb_parts(&mut out[2..end], &mut mac, credentials.cipher_key, iv);
-    out[end..n + 10].copy_from_slice(&mac);
-}
-
-// Seals a command or a response over the front of a work block, if the lengths are right. The credentials are cipher key, MAC key and
-// Challenge 3C. A stream cipher needs no whole blocks, so nothing is padded.
-fn seal_aes(
-    code: u8,
-    number: u16,
-    id: &[u8],
-    credentials: &[u8],
-    payload: &[u8],
-    work: &mut [u8],
-) -> Result<Sealed, Refusal>
-    requires { 253 ≤ length work.old }
-    ensures { SealsInto (aes_seal_rows (length id.now) (length credentials.now) (length payload.now)) (aes_sealed credentials.now code number id.now payload.now) (aes_size (length payload.now)) 0 result work.old work.new }
-{
-    let id = answer::exact::<6>(id)?;
-    let credentials = Credentials::parse(credentials)?;
-    let size = size_aes(payload.len())?;
-    write_aes(code, number, id, credentials, payload, work);
-    Ok(Sealed { size, padding: 0 })
+    out[end..size].copy_from_slice(&mac);
+    Sealed { size, padding: 0 }
 }
 
 // Seals a command or a response, in a work block. These lines and those of the response frame are des.rt's but for what seals: a trait for it
@@ -145,8 +155,9 @@ pub fn encrypt_secure_request_v2_aes128(
 ) -> Answer
     ensures { Meets (aes_sealing credentials.now code number id.now payload.now (length out.old)) result out.old out.new }
 {
+    let (id, credentials) = check_aes(id, credentials, payload)?;
     let mut work = [0u8; 256];
-    let sealed = seal_aes(code, number, id, credentials, payload, &mut work)?;
+    let sealed = write_aes(code, number, id, credentials, payload, &mut work);
     answer::deliver(0, sealed.padding, &work[..sealed.size], out)
 }
 
@@ -172,6 +183,20 @@ fn split_sealed(data: &[u8]) -> Result<(u16, &[u8], [u8; 8]), Refusal>
         return Err(Refusal::TooLong);
     }
     Ok((u16::from_le_bytes(*number), sealed, *mac))
+}
+
+// ID of an opening and the parts of its data, if no row by lengths refuses it: 17, 11, 12.
+fn check_open_aes<'a>(
+    id: &[u8],
+    credentials: &[u8],
+    data: &'a [u8],
+) -> Result<([u8; 6], u16, &'a [u8], [u8; 8]), Refusal>
+    ensures { ChecksOpenAes id.now credentials.now «data».now result }
+{
+    let id = answer::exact::<6>(id)?;
+    Credentials::check(credentials)?;
+    let (number, sealed, mac) = split_sealed(data)?;
+    Ok((id, number, sealed, mac))
 }
 
 // Decrypts the parts in a work block, so that a refusal shows nothing of them.
@@ -207,9 +232,8 @@ pub fn decrypt_secure_response_v2_aes128(
 ) -> Answer
     ensures { Meets (aes_opening credentials.now code id.now «data».now (length out.old)) result out.old out.new }
 {
-    let id = answer::exact::<6>(id)?;
-    let credentials = Credentials::parse(credentials)?;
-    let (number, sealed, mac) = split_sealed(data)?;
+    let (id, number, sealed, mac) = check_open_aes(id, credentials, data)?;
+    let credentials = Credentials::parse(credentials);
     decrypt_in_work_block(code, number, id, credentials, sealed, mac, out)
 }
 
@@ -236,8 +260,9 @@ pub fn build_secure_response_frame_v2_aes128(
 ) -> Answer
     ensures { Meets (responding 2 credentials.now code number id.now payload.now (length out.old)) result out.old out.new }
 {
+    let (id, credentials) = check_aes(id, credentials, payload)?;
     let mut work = [0u8; 256];
-    let sealed = seal_aes(code, number, id, credentials, payload, &mut work[2..])?;
+    let sealed = write_aes(code, number, id, credentials, payload, &mut work[2..]);
     let end = command::frame_with_length_prefix(code, sealed.size, &mut work);
     answer::deliver(0, sealed.padding, &work[..end], out)
 }

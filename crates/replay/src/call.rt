@@ -1,6 +1,7 @@
 // The stored answer of a case, and whether a call gives it.
 ghost use Rattle.std.specs.Prelude.{◌≤◌, length};
 
+use crate::field;
 use answer::{Answer, Refusal};
 use textfile::{FieldError, Fields};
 
@@ -14,6 +15,15 @@ pub(crate) struct Given {
     pub(crate) value: u16,
     pub(crate) padding: u8,
 }
+
+// What stands for None, where a case has no call or its session cannot be made: a number that no operation answers.
+const NO_ANSWER: Given = Given {
+    number: 255,
+    length: 0,
+    scheme: 0,
+    value: 0,
+    padding: 0,
+};
 
 impl From<Answer> for Given {
     fn from(answer: Answer) -> Given {
@@ -68,7 +78,7 @@ impl Wanted {
         number: usize,
         bytes: usize,
     ) -> Result<Wanted, FieldError> {
-        Wanted::new(fields.number(number)?, 0, 0, fields.bytes(bytes)?)
+        Wanted::new(fields.number(number)?, 0, 0, field::long(fields, bytes)?)
     }
 
     // An answer that has a value too: the fields where its number, its value and its bytes are.
@@ -82,7 +92,7 @@ impl Wanted {
             fields.number(number)?,
             fields.number(value)?,
             0,
-            fields.bytes(bytes)?,
+            field::long(fields, bytes)?,
         )
     }
 
@@ -128,7 +138,7 @@ impl Wanted {
         }
     }
 
-    // Whether a call gives this, and not None, which no answer is: with an output of the answer's size, of one byte more, of 4,608 bytes, and of one
+    // Whether a call gives this: with an output of the answer's size, of one byte more, of 4,608 bytes, and of one
     // byte less, which is answered with "the output is too small". A call without an output is asked anew.
     pub(crate) fn is_given<F: Fn(&mut [u8]) -> Option<Given>>(&self, call: F) -> bool
         requires { F.IsAlwaysCallable call }
@@ -158,5 +168,6 @@ fn in_room<F: Fn(&mut [u8]) -> Option<Given>>(
     let mut page = [0xA5u8; 4640];
     let mut right = [0xA5u8; 4640];
     right[16..16 + bytes.len()].copy_from_slice(bytes);
-    call(&mut page[16..16 + room]) == Some(answer) && page == right
+    let given = call(&mut page[16..16 + room]).unwrap_or(NO_ANSWER);
+    given == answer && page == right
 }

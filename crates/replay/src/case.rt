@@ -2,21 +2,26 @@
 use crate::note::Checks;
 use crate::{challenge, derive, sealed, steps};
 use std::alloc::Global;
-use textfile::{FieldError, Fields, Verdict};
+use textfile::{FieldError, Fields, Judge, Verdict};
 
-// What comes of a line. The searches of a derivation's key list are checks of a run of their own.
-pub(crate) fn run(
-    alloc: Global,
-    operation: &str,
-    line: &str,
-    searches: &mut Checks,
-) -> Result<Verdict, FieldError> {
-    let departing = line.strip_suffix(" departs");
-    let agrees = agrees(alloc, operation, departing.unwrap_or(line), searches)?;
-    if agrees && departing.is_some() {
-        Ok(Verdict::Departs)
-    } else {
-        Ok(Verdict::from(agrees))
+// The lines of a file whose cases name an operation. The searches of a derivation's key list are checks of a run of their own.
+#[derive(Drop)]
+pub(crate) struct Cases {
+    pub(crate) alloc: Global,
+    pub(crate) operation: &'static str,
+    pub(crate) searches: Checks,
+}
+
+impl Judge for Cases {
+    fn judge(&mut self, line: &str) -> Result<Verdict, FieldError> {
+        let departing = line.strip_suffix(" departs");
+        let case = departing.unwrap_or(line);
+        let agrees = agrees(self.alloc, self.operation, case, &mut self.searches)?;
+        if agrees && departing.is_some() {
+            Ok(Verdict::Departs)
+        } else {
+            Ok(Verdict::from(agrees))
+        }
     }
 }
 

@@ -1,6 +1,7 @@
-// Challenges and the AES session keys: a case's inputs, and the call. Field 1 says which challenge a case is about; another name gives no answer, so
-// such a case differs. The calls take different inputs, so each is an arm of a match.
+// Challenges and the AES session keys: a case's inputs, and the call. Field 1 says which challenge a case is about; under another name there is no
+// call. The calls take different inputs, so each is an arm of a match.
 use crate::call::{Wanted, answered};
+use crate::field;
 use textfile::{FieldError, Fields};
 
 // The fields 2 to 6 of a challenge's case.
@@ -18,10 +19,10 @@ impl Inputs {
     fn read(fields: &Fields) -> Result<Inputs, FieldError> {
         Ok(Inputs {
             scheme: fields.number(2)?,
-            idm: fields.bytes(3)?,
-            keys: fields.bytes(4)?,
-            challenge_3c: fields.bytes(5)?,
-            text: fields.bytes(6)?,
+            idm: field::short(fields, 3)?,
+            keys: field::short(fields, 4)?,
+            challenge_3c: field::short(fields, 5)?,
+            text: field::short(fields, 6)?,
         })
     }
 }
@@ -69,7 +70,7 @@ pub(crate) fn read(fields: &Fields) -> Result<bool, FieldError> {
 pub(crate) fn check(fields: &Fields) -> Result<bool, FieldError> {
     let which = fields.get(1)?;
     let wanted = Wanted::value(fields, fields.number(8)?, 0)?;
-    let block = fields.bytes(7)?;
+    let block = field::short(fields, 7)?;
     let Inputs {
         scheme,
         idm,
@@ -91,8 +92,8 @@ pub(crate) fn check(fields: &Fields) -> Result<bool, FieldError> {
 // The IDm and the keys of a case are the original's: random 2 alone enters.
 pub(crate) fn session_keys(fields: &Fields) -> Result<bool, FieldError> {
     let wanted = Wanted::bytes(fields, 4, 5)?;
-    fields.bytes(1)?;
-    fields.bytes(2)?;
-    let random = fields.bytes(3)?;
+    field::short(fields, 1)?;
+    field::short(fields, 2)?;
+    let random = field::short(fields, 3)?;
     Ok(wanted.is_given(|out| answered(session::derive_secure_session_keys(&random, out))))
 }

@@ -257,11 +257,7 @@ fn receive(
     let received = context.apply_response(0x43, sealed, &mut out[..room.min(8)]);
     let (wanted, written) = match outcome.refusal {
         None => {
-            let accepted = Accepted {
-                length: 8,
-                transaction_number: outcome.number,
-                padding: 0,
-            };
+            let accepted = Accepted::opened(8, outcome.number);
             (Ok(accepted), *b"payload8")
         }
         Some(refusal) => (Err(refusal), [0xA5; 8]),

@@ -1,5 +1,6 @@
 // Key derivation and service codes: a case's inputs, and the call. The stored key lists are searched too.
 use crate::call::{Given, Wanted};
+use crate::field;
 use crate::note::Checks;
 use answer::{Refusal, Scheme};
 use session::Found;
@@ -49,13 +50,13 @@ pub(crate) fn keys(fields: &Fields, searches: &mut Checks) -> Result<bool, Field
         fields.number(6)?,
         fields.number(7)?,
         fields.number(8)?,
-        fields.bytes(9)?,
+        field::long(fields, 9)?,
     )?;
     let mark = fields.number(1)?;
-    let keys = fields.bytes(2)?;
-    let areas = fields.bytes(3)?;
-    let services = fields.bytes(4)?;
-    let individual = fields.bytes(5)?;
+    let keys = field::long(fields, 2)?;
+    let areas = field::long(fields, 3)?;
+    let services = field::long(fields, 4)?;
+    let individual = field::short(fields, 5)?;
     search(searches, &keys);
     Ok(wanted.is_given(|out| {
         let derived = session::derive_auth_keys(mark, &keys, &areas, &services, &individual, out);

@@ -154,11 +154,7 @@ impl<'a> Ends<'a> {
 
 // The answer to 16 bytes that are opened.
 fn opened_16(transaction_number: u16) -> Answer {
-    Ok(Accepted {
-        length: 16,
-        transaction_number,
-        padding: 0,
-    })
+    Ok(Accepted::opened(16, transaction_number))
 }
 
 // A challenge made at one end and read at the other, and that one's proof of it checked at the first: five checks. Answers what was read.

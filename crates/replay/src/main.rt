@@ -12,13 +12,14 @@ mod challenge;
 mod corners;
 mod derive;
 mod ends;
+mod field;
 mod note;
 mod sealed;
 mod steps;
 
 use answer::Scheme;
+use case::Cases;
 use note::Checks;
-use std::io;
 use textfile::Tally;
 
 // Each file, and the operation that its cases name.
@@ -49,23 +50,26 @@ static FILES: [(&str, &str); 24] = [
     ("apply", "apply.txt"),
 ];
 
-fn main(rt: HostRuntime) -> io::Result<()> {
-    textfile::print_head(&rt)?;
+fn main(rt: HostRuntime) {
+    textfile::print_head(&rt);
     let mut all = Tally::default();
-    let mut searches = Checks::new(rt.alloc());
+    let mut cases = Cases {
+        alloc: rt.alloc(),
+        operation: "",
+        searches: Checks::new(rt.alloc()),
+    };
     for (operation, file) in &FILES {
-        all += textfile::run_file(&rt, file, |line| {
-            case::run(rt.alloc(), operation, line, &mut searches)
-        })?;
+        cases.operation = *operation;
+        all += textfile::run_file(&rt, file, &mut cases);
     }
-    all += searches.print(&rt, "the searches", "# Searches of the stored key lists\n")?;
-    all += own_runs(&rt)?;
-    textfile::print_sum(&rt, all)?;
-    textfile::print_departed(&rt, all, "of them depart from the original")
+    all += cases.searches.print(&rt, "the searches", "# Searches of the stored key lists\n");
+    all += own_runs(&rt);
+    textfile::print_sum(&rt, all);
+    textfile::print_departed(&rt, all, b"of them depart from the original\n");
 }
 
 // The runs that have no file.
-fn own_runs<R: Print + AllocGlobal>(rt: &R) -> io::Result<Tally> {
+fn own_runs<R: Print + AllocGlobal>(rt: &R) -> Tally {
     let mut many = Checks::new(rt.alloc());
     corners::many(&mut many);
     let mut steps = Checks::new(rt.alloc());
@@ -87,26 +91,26 @@ fn own_runs<R: Print + AllocGlobal>(rt: &R) -> io::Result<Tally> {
         rt,
         "the session's corners",
         "# Session: 65,537 responses turned away\n",
-    )?;
+    );
     all += steps.print(
         rt,
         "the session's corners",
         "# Session: number and response steps at their corners\n",
-    )?;
+    );
     all += under.print(
         rt,
         "the session's corners",
         "# Session: number and response steps under a ceiling\n",
-    )?;
+    );
     all += steady.print(
         rt,
         "the session's corners",
         "# Session: 65,535 number steps\n",
-    )?;
+    );
     all += ends.print(
         rt,
         "both ends",
         "# Both ends through every call, by mark and scheme\n",
-    )?;
-    Ok(all)
+    );
+    all
 }

@@ -1,7 +1,6 @@
 // The checks of a run that has no file: each is counted as a case is.
 use answer::Answer;
 use std::alloc::{AllocError, Global};
-use std::io;
 use textfile::{Tally, Verdict};
 
 // How many checks ran, how many of them hold, and the places of the others.
@@ -22,7 +21,7 @@ impl Checks {
         }
     }
 
-    // One check more. It answers nothing, so that a run goes on: where memory runs out, print says so.
+    // One check more. A run goes on where memory runs out: print says so.
     pub(crate) fn holds(&mut self, is_right: bool) {
         self.tally += Tally::from(Verdict::from(is_right));
         if !is_right {
@@ -42,12 +41,14 @@ impl Checks {
     }
 
     // Prints the place of each check that does not hold, as a line's is, and the run's row, with a title in the place of a file's first line.
-    pub(crate) fn print(self, rt: &impl Print, run: &str, title: &str) -> io::Result<Tally> {
-        self.kept?;
+    pub(crate) fn print(self, rt: &impl Print, run: &str, title: &str) -> Tally {
         for place in self.faults.as_slice() {
-            textfile::counted(rt, Ok(Verdict::Differs), run, *place)?;
+            textfile::counted(rt, Ok(Verdict::Differs), run.as_bytes(), *place);
         }
-        textfile::print_row(rt, self.tally, title)?;
-        Ok(self.tally)
+        if self.kept.is_err() {
+            let _ = println!(rt; "{run}: finds no memory for each place");
+        }
+        textfile::print_row(rt, self.tally, title.as_bytes());
+        self.tally
     }
 }

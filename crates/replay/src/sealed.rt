@@ -1,5 +1,6 @@
 // The operations of `frame`: a case's inputs, and the calls. A case has its scheme as a mark, any number: one that is not DES's goes to the AES call.
 use crate::call::{Given, Wanted, answered};
+use crate::field;
 use answer::{Answer, Scheme};
 use textfile::{FieldError, Fields};
 
@@ -32,13 +33,13 @@ struct Sealing {
 impl Sealing {
     fn read(fields: &Fields) -> Result<Sealing, FieldError> {
         let scheme = fields.number(1)?;
-        let payload = fields.bytes(6)?;
+        let payload = field::long(fields, 6)?;
         Ok(Sealing {
             scheme,
             code: fields.number(2)?,
             number: fields.number(3)?,
-            id: fields.bytes(4)?,
-            credentials: fields.bytes(5)?,
+            id: field::short(fields, 4)?,
+            credentials: field::short(fields, 5)?,
             wanted: Wanted::bytes(fields, 7, 8)?.padded(padding(scheme, payload.len())),
             payload,
         })
@@ -118,9 +119,9 @@ pub(crate) fn open(fields: &Fields) -> Result<bool, FieldError> {
     let wanted = Wanted::opened(fields, 6, 7, 8)?;
     let scheme = fields.number(1)?;
     let code = fields.number(2)?;
-    let id = fields.bytes(3)?;
-    let credentials = fields.bytes(4)?;
-    let sealed = fields.bytes(5)?;
+    let id = field::short(fields, 3)?;
+    let credentials = field::short(fields, 4)?;
+    let sealed = field::long(fields, 5)?;
     let both = wanted.is_given(|out| {
         answered(frame::decrypt_response(scheme, code, &id, &credentials, &sealed, out))
     });
@@ -142,16 +143,16 @@ pub(crate) fn under_key<F: Fn(&[u8], &[u8], &mut [u8]) -> Answer>(
     requires { F.IsAlwaysCallable call }
 {
     let wanted = Wanted::bytes(fields, 3, 4)?;
-    let key = fields.bytes(1)?;
-    let text = fields.bytes(2)?;
+    let key = field::short(fields, 1)?;
+    let text = field::long(fields, 2)?;
     Ok(wanted.is_given(|out| answered(call(&key, &text, out))))
 }
 
 // Closures pass the arguments on: Rattle refuses the name of a function of another crate in their place.
 pub(crate) fn auth2_seal(fields: &Fields) -> Result<bool, FieldError> {
     let wanted = Wanted::bytes(fields, 3, 4)?;
-    let key = fields.bytes(1)?;
-    let payload = fields.bytes(2)?;
+    let key = field::short(fields, 1)?;
+    let payload = field::long(fields, 2)?;
     let wanted = wanted.padded(des_padding(payload.len()));
     Ok(wanted.is_given(|out| {
         answered(frame::encrypt_authentication2_payload(&key, &payload, out))
@@ -174,9 +175,9 @@ pub(crate) fn package(fields: &Fields) -> Result<bool, FieldError> {
 
 pub(crate) fn auth2_open_aes(fields: &Fields) -> Result<bool, FieldError> {
     let wanted = Wanted::opened(fields, 4, 5, 6)?;
-    let id = fields.bytes(1)?;
-    let credentials = fields.bytes(2)?;
-    let sealed = fields.bytes(3)?;
+    let id = field::short(fields, 1)?;
+    let credentials = field::short(fields, 2)?;
+    let sealed = field::long(fields, 3)?;
     Ok(wanted.is_given(|out| {
         answered(frame::decrypt_authentication2_payload_v2_aes128(&id, &credentials, &sealed, out))
     }))

@@ -1,5 +1,6 @@
 // The session's steps: a case's inputs, the call, and the session after it.
 use crate::call::{Given, Wanted};
+use crate::field;
 use answer::{Answer, Refusal, Scheme};
 use session::AuthenticatedContext;
 use textfile::{FieldError, Fields};
@@ -47,7 +48,7 @@ fn turns_away(refusal: Refusal) -> bool {
 
 pub(crate) fn index(fields: &Fields) -> Result<bool, FieldError> {
     let wanted = Wanted::value(fields, fields.number(3)?, fields.number(4)?)?;
-    let nodes = fields.bytes(1)?;
+    let nodes = field::long(fields, 1)?;
     let node = fields.number(2)?;
     Ok(wanted.is_given(|_| {
         Some(match made(0, &nodes) {
@@ -61,9 +62,9 @@ pub(crate) fn apply(fields: &Fields) -> Result<bool, FieldError> {
     let wanted = Wanted::opened(fields, 6, 7, 8)?;
     let number = fields.number(1)?;
     let code = fields.number(4)?;
-    let id = fields.bytes(2)?;
-    let key = fields.bytes(3)?;
-    let sealed = fields.bytes(5)?;
+    let id = field::short(fields, 2)?;
+    let key = field::short(fields, 3)?;
+    let sealed = field::long(fields, 5)?;
     Ok(wanted.is_given(|out| {
         let mut context = AuthenticatedContext::new(
             Scheme::Des.mark(),

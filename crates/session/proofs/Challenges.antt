@@ -1,11 +1,11 @@
 -- Challenge calls, step by step: row 17, the context and the block that a call reads, the block that it makes, and the answer. Assumes nothing.
 use mathlib.Core.Path.{◌≡◌, refl, sym, ap, ap₂, ◌∙◌}
-use mathlib.Core.Bool.{Bool, true, false}
+use mathlib.Core.Bool.{Bool, true, false, not}
 use mathlib.Core.List.{List, [], ◌∷◌, ◌++◌}
 use Prim.Native.Nat.{ℕ, ◌+◌, ◌≤◌}
 use native.Mathlib.Omega.{arith}
 use borrow.Author.Tests.{eq-eqb, ne_eqb}
-use lib.Dec.{eqb}
+use lib.Dec.{eqb, lit≤}
 use lib.ListN.{length, take, drop, replicate}
 use lib.Seq.{take_all}
 use Rattle.std.specs.Prelude.{◌≢◌, Result, Ok, Err}
@@ -16,11 +16,11 @@ use Rattle.answer.specs.declared.answer.Accepted.{Accepted}
 use Rattle.answer.specs.declared.refusal.Refusal.{Refusal}
 use Rattle.answer.specs.declared.refusal.Refusal.TheVariants.{BadMarkOrLength}
 use Rattle.answer.specs.Delivery.{handing, delivering, Delivers}
-use Rattle.answer.specs.Outcome.{Answer, Meets, row, acceptance, accepted, choose, decide, over}
+use Rattle.answer.specs.Outcome.{Outcome, Answer, Meets, row, refused, acceptance, accepted, choose, decide, over}
 use Rattle.answer.specs.Tests.{isnt, either, same}
 use Rattle.answer.proofs.Refusals.{either_of}
-use Rattle.answer.proofs.Rows.{Refused, wrong_length, right_length, refused_meets, accepted_meets, delivers_meets}
-use Rattle.session.specs.Challenge.{des_l, des_alpha, des_beta, aes_h, aes_alpha, aes_beta, context_block, with_3c, under_alpha, under_alpha_back, under_beta, under_beta_back, block_size, unknown_scheme, wrong, wrong_with_3c, giving, checking, session_key_input, session_keys, deriving_session_keys}
+use Rattle.answer.proofs.Rows.{Refused, choose_most, either_false, is_number, wrong_length, right_length, refused_meets, accepted_meets, delivers_meets}
+use Rattle.session.specs.Challenge.{des_l, des_alpha, des_beta, aes_h, aes_alpha, aes_beta, context_block, with_3c, under_alpha, under_alpha_back, under_beta, under_beta_back, block_size, unknown_scheme, wrong, wrong_with_3c, giving, checking, Compares, session_key_input, session_keys, deriving_session_keys}
 use Rattle.session.specs.inner.ChallengeSteps.{IsParsed, HasParsed}
 use Rattle.session.specs.declared.challenge.Parsed.{Parsed}
 use Rattle.session.specs.declared.challenge.Parsed.TheVariants.{Des, Aes128}
@@ -34,17 +34,17 @@ module _ {A : Type 0} (s : ℕ) (a b : A) where
   unfolding choose
   first e = rw e
 
-  pub second : s ≡ 2 → choose (eqb s 1) a b ≡ b
+  pub second : s ≢ 1 → choose (eqb s 1) a b ≡ b
   unfolding choose
-  second e = rw e
+  second h = rw (ne_eqb s 1 h)
 
 pub size_des_lem : (s : ℕ) → s ≡ 1 → block_size s ≡ 8
 unfolding block_size
 size_des_lem s e = first s 8 16 e
 
-pub size_aes : (s : ℕ) → s ≡ 2 → block_size s ≡ 16
+pub size_aes : (s : ℕ) → s ≢ 1 → block_size s ≡ 16
 unfolding block_size
-size_aes s e = second s 8 16 e
+size_aes s h = second s 8 16 h
 
 pub des_known : (s : ℕ) → s ≡ 1 → unknown_scheme s ≡ false
 unfolding unknown_scheme isnt either
@@ -53,6 +53,21 @@ des_known s e = rw e
 pub aes_known : (s : ℕ) → s ≡ 2 → unknown_scheme s ≡ false
 unfolding unknown_scheme isnt either
 aes_known s e = rw e
+
+not_isnt : (t : Bool) → not t ≡ isnt t
+unfolding isnt
+not_isnt true = refl
+not_isnt false = refl
+
+-- a mark that is not that of DES is known if it is that of AES
+pub mark_left : (s : ℕ) → s ≢ 1 → not (eqb s 2) ≡ unknown_scheme s
+unfolding unknown_scheme either
+mark_left s n = rw (ne_eqb s 1 n) (not_isnt (eqb s 2))
+
+-- no block is longer than 16 bytes
+pub size_most : (s : ℕ) → block_size s ≤ 16
+unfolding block_size
+size_most s = choose_most (eqb s 1) 8 16 16 (lit≤ tt) (lit≤ tt)
 
 -- the derived keys are two blocks
 two_sizes : (s : ℕ) → choose (eqb s 1) 16 32 ≡ block_size s + block_size s
@@ -123,6 +138,51 @@ module _ (w : Bool) (s g n : ℕ) (size : block_size s ≡ n) where
   pub given_right : w ≡ false → g ≡ n → either w (isnt (eqb g (block_size s))) ≡ false
   given_right h k = either_of w _ h (right_length g _ (k ∙ sym size))
 
+-- ---- lengths that are not wrong
+
+module _ (s keys idm block : ℕ) (h : wrong s keys idm block ≡ false) where
+  -- m, n are the numbers of bytes of the derived keys and of a block
+  lengths : (m n : ℕ) → choose (eqb s 1) 16 32 ≡ m → block_size s ≡ n → ((keys ≡ m) × (idm ≡ 8)) × (block ≡ n)
+  unfolding wrong
+  lengths m n em en =
+      let f = either_false (unknown_scheme s) _ h in
+      let g = either_false (isnt (eqb keys (choose (eqb s 1) 16 32))) _ f.1 in
+      let j = either_false (isnt (eqb idm 8)) (isnt (eqb block (block_size s))) g.1 in
+      ((is_number _ _ g.0 ∙ em, is_number _ _ j.0), is_number _ _ j.1 ∙ en)
+
+  -- those of DES
+  pub des_lengths : s ≡ 1 → ((keys ≡ 16) × (idm ≡ 8)) × (block ≡ 8)
+  des_lengths e = lengths 16 8 (first s 16 32 e) (size_des_lem s e)
+
+  -- those of AES
+  pub aes_lengths : s ≢ 1 → ((keys ≡ 32) × (idm ≡ 8)) × (block ≡ 16)
+  aes_lengths n = lengths 32 16 (second s 16 32 n) (size_aes s n)
+
+-- with a Challenge 3C; t is what the test gave
+pub with_3c_lem : (s keys idm block c3 : ℕ) (t : Bool) → t ≡ wrong_with_3c s keys idm block c3 → t ≡ false → (wrong s keys idm block ≡ false) × (c3 ≡ 4)
+unfolding wrong_with_3c
+with_3c_lem s keys idm block c3 t e h =
+    let f = either_false (wrong s keys idm block) (isnt (eqb c3 4)) (sym e ∙ h) in
+    (f.0, is_number c3 4 f.1)
+
+-- a challenge that is not as long as the random: one of the two is wrong
+module _ (s keys idm random given : ℕ) (other : given ≢ random) where
+  pub unequal_wrong : either (wrong s keys idm random) (isnt (eqb given (block_size s))) ≡ true
+  unequal_wrong = go (wrong s keys idm random) refl
+    where
+      go : (w : Bool) → wrong s keys idm random ≡ w → either w (isnt (eqb given (block_size s))) ≡ true
+      go true e = either_first true _ refl
+      go false e = either_second false _ (wrong_length given _ (λ k. other (k ∙ sym (lengths s keys idm random e _ _ refl refl).1)))
+
+  pub unequal_wrong_3c : (c3 : ℕ) → either (wrong_with_3c s keys idm random c3) (isnt (eqb given (block_size s))) ≡ true
+  unequal_wrong_3c c3 = go (wrong_with_3c s keys idm random c3) refl
+    where
+      go : (w : Bool) → wrong_with_3c s keys idm random c3 ≡ w → either w (isnt (eqb given (block_size s))) ≡ true
+      go true e = either_first true _ refl
+      go false e =
+          let right = (with_3c_lem s keys idm random c3 false (sym e) refl).0 in
+          either_second false _ (wrong_length given _ (λ k. other (k ∙ sym (lengths s keys idm random right _ _ refl refl).1)))
+
 -- ---- the contexts
 
 module _ (keys idm i g u : List ℕ) (p : i ≡ idm) where
@@ -190,26 +250,29 @@ module _ (s : ℕ) (keys idm block : List ℕ) where
       pub is_aes : IsParsed s keys idm block (Aes128 c b)
       is_aes = rw e at h
 
+      not_des : s ≢ 1
+      not_des h = omega (arith, is_aes.0, h)
+
       pub aes_size : block_size s ≡ 16
-      aes_size = size_aes s is_aes.0
+      aes_size = size_aes s not_des
 
       pub aes_under_alpha : aes_encrypt c.alpha b ≡ under_alpha s keys idm block
       unfolding under_alpha
-      aes_under_alpha = ap₂ aes_encrypt is_aes.1 is_aes.3 ∙ sym (second s _ _ is_aes.0)
+      aes_under_alpha = ap₂ aes_encrypt is_aes.1 is_aes.3 ∙ sym (second s _ _ not_des)
 
       pub aes_under_alpha_back : aes_decrypt c.alpha b ≡ under_alpha_back s keys idm block
       unfolding under_alpha_back
-      aes_under_alpha_back = ap₂ aes_decrypt is_aes.1 is_aes.3 ∙ sym (second s _ _ is_aes.0)
+      aes_under_alpha_back = ap₂ aes_decrypt is_aes.1 is_aes.3 ∙ sym (second s _ _ not_des)
 
       -- x: what was read of Challenge 3C
       module _ (x c3 : List ℕ) (q : x ≡ c3) where
         pub aes_under_beta : aes_encrypt (with_3c c.beta x) b ≡ under_beta s keys idm c3 block
         unfolding under_beta
-        aes_under_beta = ap₂ aes_encrypt (ap₂ with_3c is_aes.2 q) is_aes.3 ∙ sym (second s _ _ is_aes.0)
+        aes_under_beta = ap₂ aes_encrypt (ap₂ with_3c is_aes.2 q) is_aes.3 ∙ sym (second s _ _ not_des)
 
         pub aes_under_beta_back : aes_decrypt (with_3c c.beta x) b ≡ under_beta_back s keys idm c3 block
         unfolding under_beta_back
-        aes_under_beta_back = ap₂ aes_decrypt (ap₂ with_3c is_aes.2 q) is_aes.3 ∙ sym (second s _ _ is_aes.0)
+        aes_under_beta_back = ap₂ aes_decrypt (ap₂ with_3c is_aes.2 q) is_aes.3 ∙ sym (second s _ _ not_des)
 
 -- ---- the answers
 
@@ -244,6 +307,23 @@ module _ (bad : Bool) (given want : List ℕ) (r : Answer) where
   checks h t x y e p q m =
       let g : t ≡ same given want = e ∙ ap₂ same p q in
       rw (h, ← g) m
+
+-- the same where row 13 is left to the caller
+module _ (bad : Bool) (given want : List ℕ) where
+  pub not_compared : bad ≡ true → (e : Refusal) (r : Result Bool Refusal) → r ≡ Err e → e ≡ BadMarkOrLength → Compares (checking bad given want) r
+  unfolding checking decide choose
+  not_compared h e r q k = rw (h, q) (refl, k)
+
+  -- t compared the two
+  pub compares : bad ≡ false → (t : Bool) (x y : List ℕ) → t ≡ same x y → x ≡ given → y ≡ want → checking bad given want ≡ decide (row 13 (isnt t) ∷ []) (accepted 0 [])
+  unfolding checking decide choose
+  compares h t x y e p q =
+      let g : t ≡ same given want = e ∙ ap₂ same p q in
+      rw (h, g) refl
+
+-- o is the outcome of a check that compared nothing
+pub refused_compares : (o : Outcome) (r : Answer) (e : Refusal) → r ≡ Err e → (o ≡ refused 17) × (e ≡ BadMarkOrLength) → Meets o r [] []
+refused_compares o r e q h = rw h.0 (refused_meets 17 r [] (refused_17 e r q h.1))
 
 -- what `accept` of src/challenge.rt ensures
 module _ (t : Bool) (r : Answer) where

@@ -100,6 +100,14 @@ module _ (scheme number ceiling listed turned : ℕ) (id credentials nodes : Lis
       let f : drop 170 (id ++ credentials ++ nodes ++ t) ≡ t = drop_at (id ++ credentials ++ nodes) t 170 n in
       rw (two_bytes number hn, two_bytes ceiling hc, two_bytes listed hl, a, c, d, f, two_bytes turned ht)
 
+  -- the same of the first eight bytes
+  module _ (l0 b0 l1 b1 l2 b2 l3 : List ℕ) where
+    pub head_placed : l0 ≡ 2 ∷ scheme ∷ [] → b0 ≡ l0 ++ drop 2 (replicate 180 0)
+        → l1 ≡ number_bytes number → b1 ≡ take 2 b0 ++ (l1 ++ drop 2 (drop 2 b0))
+        → l2 ≡ number_bytes ceiling → b2 ≡ take 4 b1 ++ (l2 ++ drop 2 (drop 4 b1))
+        → l3 ≡ number_bytes listed → take 6 b2 ++ (l3 ++ drop 2 (drop 6 b2)) ≡ (2 ∷ scheme ∷ number_bytes number ++ number_bytes ceiling ++ number_bytes listed) ++ drop 8 (replicate 180 0)
+    head_placed h0 e0 h1 e1 h2 e2 h3 = rw (h3, e2, h2, e1, h1, e0, h0) refl
+
   -- a string of zeros, in which the parts were put one behind the other
   module _ (l1 b1 l2 b2 l3 b3 l4 b4 l5 : List ℕ) where
     pub parts_placed : l1 ≡ 2 ∷ scheme ∷ number_bytes number ++ number_bytes ceiling ++ number_bytes listed → b1 ≡ l1 ++ drop 8 (replicate 180 0)

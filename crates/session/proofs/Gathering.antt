@@ -5,7 +5,7 @@ use mathlib.Core.List.{List, [], ◌∷◌, ◌++◌, map, append_assoc, append-
 use Prim.Native.Nat.{ℕ, zero, suc, ◌+◌, ◌-◌, ◌*◌, ◌/◌, ◌≤◌, ◌<◌}
 use native.Mathlib.Nat.{suc-mul}
 use native.Mathlib.Omega.{arith}
-use borrow.Author.Tests.{ne_eqb}
+use borrow.Author.Tests.{eq-eqb, ne_eqb}
 use borrow.Rule.Slice.PartMut.{put_mid}
 use lib.Dec.{lit≤, eqb}
 use lib.ListN.{length, take, drop, get_or, length-append, take-append-drop}
@@ -189,6 +189,11 @@ module _ (es : List Entry) (a : ℕ) where
 
   pub missing_first : (ns ms : List ℕ) → (missing es a (ns ++ ms)).number ≡ 0 → (missing es a ns).number ≡ 0
   missing_first ns ms h = first_at (missing es a ns).number (missing es a ms) (missing es a ns) refl (rw (missing_append ns ms) at h)
+
+  -- and nothing in the rest
+  pub missing_rest : (ns ms : List ℕ) → (missing es a (ns ++ ms)).number ≡ 0 → (missing es a ms).number ≡ 0
+  unfolding choose
+  missing_rest ns ms h = let z : (missing es a ns).number ≡ 0 = missing_first ns ms h in rw (eq-eqb _ _ z) at (rw (missing_append ns ms) at h)
 
 -- ---- keys gathered
 

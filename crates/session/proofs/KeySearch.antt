@@ -4,13 +4,15 @@ use mathlib.Core.Bool.{Bool, true, false, ◌||◌}
 use mathlib.Core.List.{List, [], ◌∷◌, ◌++◌, map}
 use Prim.Native.Nat.{ℕ, zero, suc, ◌+◌, ◌*◌, ◌/◌, ◌%◌, ◌≤◌, ◌<◌}
 use native.Mathlib.Omega.{arith}
-use lib.Dec.{lit≤, eqb}
+use borrow.Author.Tests.{lt-ltb, le-ltb}
+use lib.Dec.{lit≤, eqb, ltb}
 use lib.ListN.{length, take, drop, get_or, length-append, drop_of_length-le}
 use lib.Seq.{take-take, length-take-le}
 use Rattle.std.proofs.lemmas.List.{at_drop_more, length-map, length-drop, drop-take, take-append-le, drop-append-le, nil_from_length}
 use Rattle.std.specs.List.{list_any}
 use Rattle.std.specs.Simd.{first_chunks}
 use Rattle.answer.specs.Number.{number_of}
+use Rattle.answer.specs.Outcome.{choose}
 use Rattle.answer.specs.Tests.{isnt, either}
 use Rattle.session.specs.Entries.{Entry, entry_of, first_entries, entries, is_for, place, has, looked_at, unknown_algorithm, twice}
 use Rattle.session.proofs.Places.{has_next, Passed, passed_met, passed_next, passed_all}
@@ -104,6 +106,35 @@ module _ (node algorithm : ℕ) where
 
     pub search_fails : length ls ≤ i → (false ≡ has (map entry_of ls) node algorithm) × (n ≡ looked_at (map entry_of ls) node algorithm)
     search_fails h = passed_all node algorithm _ _ (rw (drop_of_length-le ls h) at p)
+
+-- ---- whether there is a key
+
+place_within : (es : List Entry) (node algorithm : ℕ) → place es node algorithm ≤ length es
+unfolding place choose
+place_within [] node algorithm = omega arith
+place_within (e ∷ es) node algorithm = go (is_for e node algorithm) (place_within es node algorithm)
+  where
+    go : (b : Bool) → place es node algorithm ≤ length es → choose b 0 (suc (place es node algorithm)) ≤ length (e ∷ es)
+    go true h = omega arith
+    go false h = omega arith
+
+-- p is the place of a key among the entries of a list
+module _ (keys : List ℕ) (node algorithm p : ℕ) (e : p ≡ place (entries keys) node algorithm) where
+  -- there is a key if p is below the number of entries
+  pub has_is : ltb p (length keys / 19) ≡ has (entries keys) node algorithm
+  unfolding has
+  has_is = rw (e, length_entries keys)
+
+  -- there is none if p is their number
+  pub has_none : p ≡ length keys / 19 → has (entries keys) node algorithm ≡ false
+  has_none h = sym has_is ∙ le-ltb p (length keys / 19) (omega arith)
+
+  -- there is one if p is not their number, and then p is below it
+  pub has_one : (p ≡ length keys / 19 → ⊥) → (p < length keys / 19) × (has (entries keys) node algorithm ≡ true)
+  has_one h =
+      let w : p ≤ length keys / 19 = rw (e, ← length_entries keys) (place_within (entries keys) node algorithm) in
+      let l : p < length keys / 19 = omega arith in
+      (l, sym has_is ∙ lt-ltb p (length keys / 19) l)
 
 -- ---- an unknown algorithm
 

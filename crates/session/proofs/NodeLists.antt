@@ -73,6 +73,16 @@ bearing_filter (s ∷ l) = go (key_free s) (bearing_filter l)
     go true h = h
     go false h = ap (λ (x : List ℕ). s ∷ x) h
 
+-- a key-free service by itself: none bears a key
+pub one_free : (service : ℕ) → key_free service ≡ true → length (bearing (service ∷ [])) ≡ 0
+unfolding bearing choose
+one_free service e = rw e
+
+-- a service by itself that is not key-free: one does
+pub one_bearing : (service : ℕ) → key_free service ≡ false → length (bearing (service ∷ [])) ≡ 1
+unfolding bearing choose
+one_bearing service e = rw e
+
 -- ---- what the iterators list
 
 pub Lists-nodes : {s : Nodes} (l : List ℕ) → s.rest.now ≡ l → Lists (YieldsFirst (λ t. nodes t.rest.now)) s (nodes l)
@@ -107,6 +117,20 @@ module _ (l : List ℕ) (t : Bool) (e : t ≡ list_all key_free l) where
   some_bearing h = λ z. absurd (cc (eq-eqb (length (bearing l)) 0 z, all_free l))
 
 -- ---- the last node
+
+-- the last of a list is what stands at its last place
+pub last_at : (d : ℕ) (l : List ℕ) (k : ℕ) → length l ≡ k + 1 → last d l ≡ get_or l k 0
+unfolding last
+last_at d [] k h = absurd (omega arith)
+last_at d (x ∷ []) k h = let z : k ≡ 0 = omega arith in rw z
+last_at d (x ∷ y ∷ l) zero h = absurd (omega arith)
+last_at d (x ∷ y ∷ l) (suc k) h = last_at x (y ∷ l) k (omega arith)
+
+-- the last of no nodes is the default
+pub last_none : (d : ℕ) (l : List ℕ) → length l ≡ 0 → d ≡ last d l
+unfolding last
+last_none d [] h = refl
+last_none d (x ∷ l) h = absurd (omega arith)
 
 -- what `last` ensures of a chain that gives the list all
 pub last_from : {S : Type 0} {steps : S → Option ℕ → S → Type 0} {s : S} (r : Option ℕ) (all : List ℕ) → ((xs : List ℕ) × Drains steps s xs × (r ≡ last_or None xs)) → YieldsList steps (λ x. x) s all → r ≡ last_or None all

@@ -1,15 +1,15 @@
 -- The search for a node in a session's list. Assumes nothing.
-use mathlib.Core.Path.{◌≡◌, refl, sym, ap, ◌∙◌}
+use mathlib.Core.Path.{◌≡◌, refl, sym, ap, ap₂, ◌∙◌}
 use mathlib.Core.Bool.{Bool, true, false, cond, not}
 use mathlib.Core.List.{List, [], ◌∷◌}
 use mathlib.Core.Logic.{⊎_elim}
 use Prim.Native.Nat.{ℕ, zero, suc, ◌+◌, ◌*◌, ◌/◌, ◌≤◌, ◌<◌, min}
-use native.Mathlib.Nat.{min-eq_left, min-eq_right}
+use native.Mathlib.Nat.{add-zero, min-eq_left, min-eq_right}
 use native.Mathlib.Omega.{arith}
 use borrow.Author.Tests.{lt-ltb, le-ltb, ltb-true, ltb-false}
 use lib.Dec.{eqb, ltb}
-use lib.ListN.{length, take, drop}
-use lib.Seq.{length-take-le}
+use lib.ListN.{length, take, drop, get_or}
+use lib.Seq.{get_or-drop, length-take-le}
 use Rattle.std.specs.Prelude.{Option, Some, None, MatchOption}
 use Rattle.std.specs.List.{position_or_len, position}
 use Rattle.std.specs.Simd.{first_chunks}
@@ -20,6 +20,11 @@ use Rattle.answer.proofs.Rows.{choose_most}
 use Rattle.session.proofs.NodeLists.{length_first_nodes}
 use Rattle.session.specs.Entries.{first_nodes, nodes}
 use Rattle.session.specs.Session.{first_place, index_in, listed_count}
+
+-- the number of the two bytes at a place
+pub number_at : (l : List ℕ) (at r : ℕ) → r ≡ get_or l at 0 + get_or l (at + 1) 0 * 256 → r ≡ number_of (drop at l)
+number_at l at r e =
+    e ∙ sym (ap₂ (λ (x y : ℕ). x + y * 256) (get_or-drop at l 0 0 ∙ ap (λ (k : ℕ). get_or l k 0) (add-zero at)) (get_or-drop at l 1 0))
 
 -- ---- the same search, over the pairs of bytes
 

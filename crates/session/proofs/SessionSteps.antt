@@ -6,7 +6,7 @@ use mathlib.Core.Logic.{◌⊎◌, inl, inr, ⊎_elim}
 use Prim.Native.Nat.{ℕ, zero, suc, ◌+◌, ◌-◌, ◌%◌, ◌≤◌, ◌<◌, min}
 use native.Mathlib.Nat.{sub-zero, min-eq_left, min-eq_right}
 use native.Mathlib.Omega.{arith}
-use borrow.Author.Tests.{eq-eqb, ne_eqb, lt-ltb, le-ltb}
+use borrow.Author.Tests.{eq-eqb, ne_eqb, lt-ltb, le-ltb, ltb-false}
 use lib.Dec.{eqb, lit≤}
 use lib.ListN.{length, take, drop, replicate, length-replicate}
 use lib.Seq.{take_all}
@@ -22,7 +22,7 @@ use Rattle.answer.specs.Refusal.{refusal_number}
 use Rattle.answer.specs.Outcome.{Outcome, Meets, Answer, answer_number, answer_length, answer_transaction, answer_padding, acceptance, accepted, choose, decide, refused, first_of}
 use Rattle.answer.specs.Delivery.{handing, delivering}
 use Rattle.answer.specs.Tests.{isnt, either, both}
-use Rattle.answer.proofs.Rows.{choose_keeps, refusal_some, err_meets, choose_most, numbered, first_holds}
+use Rattle.answer.proofs.Rows.{choose_keeps, refusal_some, err_meets, choose_most, numbered, first_passes, first_holds, either_false, is_number}
 use Rattle.answer.proofs.Unpadded.{Unpadded, decide_unpadded}
 use Rattle.frame.proofs.Paddings.{opening_unpadded}
 use Rattle.frame.proofs.Schemes.{opening_whole}
@@ -168,6 +168,28 @@ unfolding either
 known_mark Des mark h = rw (sym h)
 known_mark Aes128 mark h = rw (sym h)
 
+-- a mark from 1 to 2 is known
+pub mark_one_two : (s : ℕ) → 1 ≤ s → s ≤ 2 → either (eqb s 1) (eqb s 2) ≡ true
+unfolding either
+mark_one_two s l h =
+    ⊎_elim
+    (λ (g : 2 ≤ s). let e : s ≡ 2 = omega arith in rw e)
+    (λ (g : s < 2). let e : s ≡ 1 = omega arith in rw e)
+    (le_or_lt 2 s)
+
+-- a mark below 1 is unknown
+pub mark_low : (s : ℕ) → s < 1 → either (eqb s 1) (eqb s 2) ≡ false
+unfolding either
+mark_low s h = let e : s ≡ 0 = omega arith in rw e
+
+-- a mark above 2 is unknown
+pub mark_high : (s : ℕ) → 2 < s → either (eqb s 1) (eqb s 2) ≡ false
+unfolding either
+mark_high s h =
+    let n : s ≡ 1 → ⊥ = λ e. omega arith in
+    let m : s ≡ 2 → ⊥ = λ e. omega arith in
+    rw (ne_eqb s 1 n, ne_eqb s 2 m)
+
 module _ (scheme id credentials listed : ℕ) where
   abbrev number_made : ℕ
   number_made = first_of (make_rows scheme id credentials listed)
@@ -198,6 +220,22 @@ module _ (scheme id credentials listed : ℕ) where
     unfolding make_rows first_of choose isnt either
     no_row h = rw (mark, eq-eqb _ _ six, eq-eqb _ _ size, eq-eqb _ _ even, le-ltb 128 listed h)
 
+  -- what holds where no row does
+  pub record Makeable : Type 0 where
+    pub six : id ≡ 6
+    pub all : credentials ≡ credentials_size scheme
+    pub short : listed ≤ 128
+
+  -- k is the number of the rows
+  pub make_passes : (k : ℕ) → k ≡ first_of (make_rows scheme id credentials listed) → k ≡ 0 → Makeable
+  unfolding make_rows numbered both
+  make_passes k e z =
+      let a = first_passes (make_rows scheme id credentials listed) k refl e z in
+      let b = (either_false _ _ a.0).1 in
+      let c = either_false _ _ b in
+      let d = either_false _ _ c.1 in
+      record { six = is_number id 6 c.0; all = is_number credentials _ d.0; short = ltb-false 128 listed a.1.0 }
+
 -- its rows have numbers
 pub make_numbers : (scheme id credentials listed : ℕ) → numbered (make_rows scheme id credentials listed) ≡ true
 unfolding make_rows numbered both
@@ -208,6 +246,11 @@ pub made_refused : (ceiling scheme number : ℕ) (id credentials nodes : List �
 made_refused ceiling scheme number id credentials nodes e {r} q h = rw q h
 
 -- ---- the response step
+
+-- no row of a response step holds: the payload fits
+pub accept_fits : (session number payload room k : ℕ) → k ≡ first_of (accept_rows session number payload room) → k ≡ 0 → payload ≤ room
+unfolding accept_rows numbered both
+accept_fits session number payload room k e z = ltb-false room payload (first_passes (accept_rows session number payload room) k refl e z).1.0
 
 module _ (s : AuthenticatedContext) (code : ℕ) (d : List ℕ) (room : ℕ) where
   -- the opening into the work block

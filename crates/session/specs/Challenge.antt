@@ -1,10 +1,12 @@
 -- docs/RULES.md, Layouts: challenges. 1A and 1B carry random 1, 2A and 2B random 2. 1A, 2B go under one key, 1B, 2A under another; both keys come
 -- from the derived keys and the card's IDm. Assumes nothing.
-use Rattle.std.specs.Prelude.{ℕ, Bool, List, [], ◌∷◌, ◌++◌, eqb, ltb, length, take, drop, replicate}
+use Rattle.std.specs.Prelude.{ℕ, ◌≡◌, Bool, List, [], ◌∷◌, ◌++◌, eqb, ltb, length, take, drop, replicate, Result, MatchResult}
 use Rattle.cipher.specs.Bytes.{◌⊕◌}
 use Rattle.cipher.specs.Fips197.{aes_encrypt, aes_decrypt}
 use Rattle.cipher.specs.Fips46.{des_encrypt, tdea2_encrypt, tdea2_decrypt}
-use Rattle.answer.specs.Outcome.{Outcome, accepted, row, choose, decide}
+use Rattle.answer.specs.declared.refusal.Refusal.{Refusal}
+use Rattle.answer.specs.declared.refusal.Refusal.TheVariants.{BadMarkOrLength}
+use Rattle.answer.specs.Outcome.{Outcome, refused, accepted, row, choose, decide}
 use Rattle.answer.specs.Tests.{isnt, either, same}
 
 -- ---- DES: the derived keys are group and user key, 8 bytes each
@@ -78,6 +80,10 @@ giving bad scheme room block = decide (row 17 bad ∷ row 16 (ltb room (block_si
 
 unfoldable pub checking : Bool → List ℕ → List ℕ → Outcome
 checking bad given wanted = decide (row 17 bad ∷ row 13 (isnt (same given wanted)) ∷ []) (accepted 0 [])
+
+-- the outcome o of a check whose row 13 is left to the caller: 17, or whether the two are equal
+abbrev pub Compares : Outcome → Result Bool Refusal → Type 0
+Compares o r = MatchResult r (λ equal. o ≡ decide (row 13 (isnt equal) ∷ []) (accepted 0 [])) (λ e. (o ≡ refused 17) × (e ≡ BadMarkOrLength))
 
 -- the reader makes 1A from its random 1, the card reads it
 unfoldable pub making_1a : ℕ → List ℕ → List ℕ → List ℕ → ℕ → Outcome

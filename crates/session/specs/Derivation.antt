@@ -1,5 +1,5 @@
--- Derivation of the keys of an authentication: the keys of areas and services, each in turn, encrypt a block. The numbers of the refusals are those
--- of docs/NUMBERS.md. Assumes nothing.
+-- docs/RULES.md, Layouts (both chains), and docs/NUMBERS.md (derivation): the keys of an authentication. The keys of areas and services, each in
+-- turn, encrypt a block. Assumes nothing.
 use Rattle.std.specs.Prelude.{ℕ, ◌%◌, ◌≡◌, Bool, List, [], ◌∷◌, ◌++◌, eqb, ltb, length, take, replicate, Result, Ok, Err}
 use Rattle.cipher.specs.Fips197.{aes_encrypt}
 use Rattle.cipher.specs.Fips46.{des_encrypt}

@@ -1,4 +1,4 @@
--- Lists as a caller hands them over. A key entry is 19 bytes: node 2 (low byte first), algorithm 1 (1 DES, 2 AES), key 16;
+-- docs/RULES.md, Layouts: lists as a caller hands them over. A key entry is 19 bytes: node 2 (low byte first), algorithm 1 (1 DES, 2 AES), key 16;
 -- DES uses the first 8. A node is 2 bytes, the low one first. Assumes nothing.
 use Rattle.std.specs.Prelude.{ℕ, zero, suc, ◌/◌, Bool, false, List, [], ◌∷◌, eqb, ltb, length, take, drop, get_or}
 use Rattle.answer.specs.Number.{number_of}

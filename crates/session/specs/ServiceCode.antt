@@ -1,4 +1,4 @@
--- Service codes: which services are key-free, so that a DES chain skips them. Assumes nothing.
+-- docs/RULES.md, Corners (keys.rs, types.rs): service codes, that is which services are key-free, so that a DES chain skips them. Assumes nothing.
 use Rattle.std.specs.Prelude.{ℕ, ◌%◌, Bool, List, [], ◌∷◌, eqb, ltb}
 use Rattle.answer.specs.Outcome.{choose}
 use Rattle.answer.specs.Tests.{both}

@@ -4,7 +4,7 @@
 ghost use Rattle.std.specs.Prelude.{[], ◌∷◌, length};
 ghost use Rattle.answer.specs.Outcome.{Meets, decide, row, accepted};
 ghost use Rattle.answer.specs.Tests.{isnt};
-ghost use Rattle.session.specs.Challenge.{making_1a, reading_1a, making_1b, checking_1b, making_2a, reading_2a, making_2b, checking_2b, deriving_session_keys};
+ghost use Rattle.session.specs.Challenge.{making_1a, reading_1a, making_1b, checking_1b, making_2a, reading_2a, making_2b, checking_2b, Compares, deriving_session_keys};
 ghost use Rattle.session.specs.inner.ChallengeSteps.{HasHalves, HasParsed};
 
 use crate::des::AuthenticationContext;
@@ -35,14 +35,14 @@ fn parse(scheme: u8, keys: &[u8], idm: &[u8], block: &[u8]) -> Result<Parsed, Re
     let idm = answer::exact(idm)?;
     match scheme {
         Scheme::Des => {
-            let block = answer::exact(block)?;
             let (group_key, user_key) = halves(keys)?;
+            let block = answer::exact(block)?;
             let context = AuthenticationContext::new(idm, group_key, user_key);
             Ok(Parsed::Des(context, block))
         }
         Scheme::Aes128 => {
-            let block = answer::exact(block)?;
             let (group_key, individual_key) = halves(keys)?;
+            let block = answer::exact(block)?;
             let context = AuthenticationContextV2Aes128::new(idm, group_key, individual_key);
             Ok(Parsed::Aes128(context, block))
         }
@@ -117,6 +117,34 @@ pub fn encrypt_challenge1b(
     }
 }
 
+// Whether challenge_1b is the 1B of random 1. For a caller that makes no jump of a difference.
+pub fn is_challenge1b(
+    scheme: u8,
+    keys: &[u8],
+    idm: &[u8],
+    challenge_3c: &[u8],
+    random_1: &[u8],
+    challenge_1b: &[u8],
+) -> Result<bool, Refusal>
+    ensures { Compares (checking_1b scheme keys.now idm.now challenge_3c.now random_1.now challenge_1b.now) result }
+{
+    // told before a context is made, whose cipher would run for nothing
+    if challenge_1b.len() != random_1.len() {
+        return Err(Refusal::BadMarkOrLength);
+    }
+    let challenge_3c = answer::exact(challenge_3c)?;
+    match parse(scheme, keys, idm, random_1)? {
+        Parsed::Des(context, random) => {
+            let challenge = answer::exact(challenge_1b)?;
+            Ok(context.verify_challenge1b(random, challenge))
+        }
+        Parsed::Aes128(context, random) => {
+            let challenge = answer::exact(challenge_1b)?;
+            Ok(context.verify_challenge1b(random, challenge, challenge_3c))
+        }
+    }
+}
+
 pub fn verify_challenge1b(
     scheme: u8,
     keys: &[u8],
@@ -127,17 +155,7 @@ pub fn verify_challenge1b(
 ) -> Answer
     ensures { Meets (checking_1b scheme keys.now idm.now challenge_3c.now random_1.now challenge_1b.now) result [] [] }
 {
-    let challenge_3c = answer::exact(challenge_3c)?;
-    match parse(scheme, keys, idm, random_1)? {
-        Parsed::Des(context, random) => {
-            let challenge = answer::exact(challenge_1b)?;
-            accept(context.verify_challenge1b(random, challenge))
-        }
-        Parsed::Aes128(context, random) => {
-            let challenge = answer::exact(challenge_1b)?;
-            accept(context.verify_challenge1b(random, challenge, challenge_3c))
-        }
-    }
+    accept(is_challenge1b(scheme, keys, idm, challenge_3c, random_1, challenge_1b)?)
 }
 
 // ---- 2A: the card makes it from its random 2, the reader reads it
@@ -195,6 +213,32 @@ pub fn encrypt_challenge2b(
     encrypt_challenge1a(scheme, keys, idm, random_2, out)
 }
 
+// Whether challenge_2b is the 2B of random 2. For a caller that makes no jump of a difference.
+pub fn is_challenge2b(
+    scheme: u8,
+    keys: &[u8],
+    idm: &[u8],
+    random_2: &[u8],
+    challenge_2b: &[u8],
+) -> Result<bool, Refusal>
+    ensures { Compares (checking_2b scheme keys.now idm.now random_2.now challenge_2b.now) result }
+{
+    // as in is_challenge1b
+    if challenge_2b.len() != random_2.len() {
+        return Err(Refusal::BadMarkOrLength);
+    }
+    match parse(scheme, keys, idm, random_2)? {
+        Parsed::Des(context, random) => {
+            let challenge = answer::exact(challenge_2b)?;
+            Ok(context.verify_challenge2b(random, challenge))
+        }
+        Parsed::Aes128(context, random) => {
+            let challenge = answer::exact(challenge_2b)?;
+            Ok(context.verify_challenge2b(random, challenge))
+        }
+    }
+}
+
 pub fn verify_challenge2b(
     scheme: u8,
     keys: &[u8],
@@ -204,16 +248,7 @@ pub fn verify_challenge2b(
 ) -> Answer
     ensures { Meets (checking_2b scheme keys.now idm.now random_2.now challenge_2b.now) result [] [] }
 {
-    match parse(scheme, keys, idm, random_2)? {
-        Parsed::Des(context, random) => {
-            let challenge = answer::exact(challenge_2b)?;
-            accept(context.verify_challenge2b(random, challenge))
-        }
-        Parsed::Aes128(context, random) => {
-            let challenge = answer::exact(challenge_2b)?;
-            accept(context.verify_challenge2b(random, challenge))
-        }
-    }
+    accept(is_challenge2b(scheme, keys, idm, random_2, challenge_2b)?)
 }
 
 // MacDiffers, where a block is not the one wanted.

@@ -65,8 +65,8 @@ impl AuthenticatedContext {
         ensures { Makes ceiling scheme number id.now credentials.now nodes.now result }
     {
         Scheme::try_from(scheme)?;
-        let id = answer::exact::<6>(id)?;
-        if credentials.len() != credentials_size(scheme) || nodes.len() % 2 != 0 {
+        // lengths alone: an ID that came through a Result would be read in pieces, which is slower
+        if id.len() != 6 || credentials.len() != credentials_size(scheme) || nodes.len() % 2 != 0 {
             return Err(Refusal::BadMarkOrLength);
         }
         if 128 < nodes.len() {
@@ -74,7 +74,7 @@ impl AuthenticatedContext {
         }
         Ok(AuthenticatedContext {
             transaction_number: number,
-            transaction_id: id,
+            transaction_id: answer::fit(id),
             scheme,
             credentials: answer::fit(credentials),
             nodes: answer::fit(nodes),
@@ -287,11 +287,13 @@ impl AuthenticatedContext {
     pub fn encode(self) -> [u8; 180]
         ensures { (result ≡ encode self) × (decode result ≡ self) }
     {
-        let [n0, n1] = self.transaction_number.to_le_bytes();
-        let [c0, c1] = self.ceiling.to_le_bytes();
-        let [l0, l1] = self.node_count.to_le_bytes();
         let mut bytes = [0u8; 180];
-        bytes[..8].copy_from_slice(&[VERSION, self.scheme, n0, n1, c0, c1, l0, l1]);
+        // each number by itself, so that a call which changes one writes that one alone
+        bytes[0] = VERSION;
+        bytes[1] = self.scheme;
+        bytes[2..4].copy_from_slice(&self.transaction_number.to_le_bytes());
+        bytes[4..6].copy_from_slice(&self.ceiling.to_le_bytes());
+        bytes[6..8].copy_from_slice(&self.node_count.to_le_bytes());
         bytes[8..14].copy_from_slice(&self.transaction_id);
         bytes[14..50].copy_from_slice(&self.credentials);
         bytes[50..178].copy_from_slice(&self.nodes);

@@ -4,7 +4,7 @@ ghost use Rattle.std.specs.Iterator.{UpTo};
 ghost use Rattle.answer.specs.Scheme.{mark_of};
 ghost use Rattle.session.specs.Derivation.{des_rows, other, key_length, key_of, lacks, derived, derived_des, derived_aes, target, derive_rows, derivation, with_room, Derives};
 ghost use Rattle.session.specs.ServiceCode.{bearing};
-ghost use Rattle.session.specs.inner.DerivationSteps.{refusing, Guards, forced_mark, bytes_of, Chooses, Lists, Gathers, Chains};
+ghost use Rattle.session.specs.inner.DerivationSteps.{refusing, Guards, forced_mark, bytes_of, Chooses, Lists, Gathers};
 ghost use Rattle.session.specs.Entries.{entry_of, entries, nodes as node_list, is_for, has, looked_at, unknown_algorithm, twice};
 ghost use Rattle.session.specs.Search.{searching, Searches};
 
@@ -142,21 +142,6 @@ impl<'a> ResolvedNodeKeys<'a> {
             cipher::copy(key, &mut work[start..end]);
         }
         Ok(end)
-    }
-
-    // A block encrypted under the DES key of each node in turn.
-    fn under_des<I: Iterator<Item = u16> + Drop>(
-        &self,
-        nodes: I,
-        block: [u8; 8],
-    ) -> Result<[u8; 8], Refusal>
-        requires can { I.can_next nodes }
-        requires few { UpTo (I.remaining nodes) 32 }
-        ensures { (ns : List ℕ) → Lists I.next_gives nodes ns → Chains (map entry_of self.now.entries.now) ns block result }
-    {
-        let mut work = [0u8; 512];
-        let size = self.gather(nodes, Scheme::Des, &mut work)?;
-        Ok(cipher::encrypt_des_under_each(block, &work[..size]))
     }
 }
 
@@ -337,11 +322,16 @@ impl<'a> Inputs<'a> {
     {
         self.check_des()?;
         let system = self.keys.require(SYSTEM_SERVICE_CODE, Scheme::Des)?;
-        let group = self
+        // every key is looked up before the first is used, so that no cipher runs for a derivation that is refused
+        let mut work = [0u8; 512];
+        let mut keyed_work = [0u8; 512];
+        let areas = self
             .keys
-            .under_des(Nodes::of(self.areas), answer::fit(system))?;
+            .gather(Nodes::of(self.areas), Scheme::Des, &mut work)?;
         let keyed = Nodes::of(self.services).filter(|service| !is_key_free_service(*service));
-        let user = self.keys.under_des(keyed, group)?;
+        let services = self.keys.gather(keyed, Scheme::Des, &mut keyed_work)?;
+        let group = cipher::encrypt_des_under_each(answer::fit(system), &work[..areas]);
+        let user = cipher::encrypt_des_under_each(group, &keyed_work[..services]);
         deliver(Scheme::Des, &group, &user, out)
     }
 

@@ -11,8 +11,8 @@ mod v2_aes;
 
 pub use challenge::{
     decrypt_challenge1a, decrypt_challenge2a, derive_secure_session_keys, encrypt_challenge1a,
-    encrypt_challenge1b, encrypt_challenge2a, encrypt_challenge2b, verify_challenge1b,
-    verify_challenge2b,
+    encrypt_challenge1b, encrypt_challenge2a, encrypt_challenge2b, is_challenge1b, is_challenge2b,
+    verify_challenge1b, verify_challenge2b,
 };
 pub use context::{AuthenticatedContext, CEILING_NONE};
 pub use des::AuthenticationContext;

@@ -1,4 +1,4 @@
--- The fields of a line, and how they are written.
+-- From no document: the fields of a line, and how they are written.
 use Rattle.std.specs.Prelude.{◌≢◌, ℕ, List, [], ◌∷◌, codes, Option, Some, slice_get}
 use Rattle.std.specs.Option.{option_copied}
 use Rattle.hex.specs.Hex.{encode_lower, IsBytes}

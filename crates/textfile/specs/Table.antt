@@ -1,4 +1,4 @@
--- Counts of cases.
+-- From no document: counts of cases.
 use Rattle.std.specs.Prelude.{◌+◌, ◌-◌, ◌^◌, ◌≤◌, min}
 use Rattle.textfile.specs.declared.table.Tally.{Tally}
 use Rattle.textfile.specs.declared.table.Verdict.{Verdict}

@@ -1,5 +1,5 @@
 // The fields of a case: byte strings in hex, and numbers in decimal.
-ghost use Rattle.std.specs.Prelude.{◌≡◌, ◌≢◌, ◌==◌, ◌⊎◌, ℕ, List, length, map, slice_index};
+ghost use Rattle.std.specs.Prelude.{◌≡◌, ◌≢◌, ◌==◌, ◌≤◌, ◌⊎◌, ℕ, List, length, map, slice_index};
 ghost use Rattle.std.specs.Prelude.{IfOk, IfErr, IfSome, IsErrOf, IsOkAnd, IsSomeAnd, MatchOption};
 ghost use Rattle.std.specs.List.{slice_split};
 ghost use Rattle.hex.specs.Hex.{IsBytes};
@@ -66,6 +66,18 @@ impl<'a> Fields<'a> {
         decode(*self.texts.allocator(), self.get(k)?)
     }
 
+    // The bytes that field k has, if these are `most` or fewer.
+    pub fn bytes_within(&self, k: usize, most: usize) -> Result<Vec<u8>, FieldError>
+        ensures ok { IfOk result (λ v. (length v.items ≤ most) × (text_at self.now k ≡ Some (written v.items))) }
+        ensures malformed { IsErrOf result Malformed → (bytes : List ℕ) → IsBytes bytes → length bytes ≤ most → text_at self.now k ≢ Some (written bytes) }
+    {
+        let bytes = self.bytes(k)?;
+        if most < bytes.len() {
+            return Err(FieldError::Malformed);
+        }
+        Ok(bytes)
+    }
+
     // The N bytes that field k has.
     pub fn array<const N: usize>(&self, k: usize) -> Result<[u8; N], FieldError>
         ensures ok { IfOk result (λ a. text_at self.now k ≡ Some (written a)) }
@@ -120,6 +132,11 @@ mod tests {
         let key = *b"\x2b\x7e\x15\x16\x28\xae\xd2\xa6\xab\xf7\x15\x88\x09\xcf\x4f\x3c";
         assert_eq!(rt; fields.array(0), Ok(key));
         assert_eq!(rt; fields.array::<8>(0), Err(FieldError::Malformed));
+        assert_eq!(rt; fields.bytes_within(0, 16).map(|bytes| bytes.len()), Ok(16));
+        assert_eq!(rt;
+            fields.bytes_within(0, 15).map(|bytes| bytes.len()),
+            Err(FieldError::Malformed)
+        );
         assert_eq!(rt; fields.bytes(1).map(|bytes| bytes.len()), Ok(0));
         assert_eq!(rt; fields.number(2), Ok(65535u16));
         for k in 3..7 {

@@ -6,5 +6,5 @@ mod file;
 mod table;
 
 pub use field::{FieldError, Fields};
-pub use file::run_file;
+pub use file::{Judge, load, run_file};
 pub use table::{Tally, Verdict, counted, print_departed, print_head, print_row, print_sum};

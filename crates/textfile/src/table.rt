@@ -1,13 +1,10 @@
 // The table that a program prints: a row for each file, with how many cases ran, how many agreed, the first bytes of the file's CMAC under the
 // zero key, so that no byte of a file changes unseen, and what the file's first line says. What is wrong has a line of its own.
-ghost use Rattle.std.specs.Prelude.{◌≡◌, if◌then◌else◌, IfOk, MatchResult};
+ghost use Rattle.std.specs.Prelude.{◌≡◌, if◌then◌else◌, MatchResult};
 ghost use Rattle.textfile.specs.Table.{counts_of, no_cases, sum_of};
-ghost use Rattle.textfile.specs.declared.field.FieldError.TheVariants.{Malformed};
 ghost use Rattle.textfile.specs.declared.table.Verdict.TheVariants.{Agrees, Differs};
 
 use crate::field::FieldError;
-use std::alloc::AllocError;
-use std::io;
 use std::ops::{Add, AddAssign};
 
 // How many cases ran, how many agreed, and how many of these depart. The counts stop at 2^64 - 1.
@@ -72,56 +69,74 @@ impl From<Verdict> for Tally {
     }
 }
 
-// What one case adds to the counts. A case that differs or is malformed is reported by its file and line.
+// What one case adds to the counts. A case that differs, is malformed or finds no memory is reported by its file and line.
 pub fn counted(
     rt: &impl Print,
     verdict: Result<Verdict, FieldError>,
-    file: &str,
+    file: &[u8],
     line: u64,
-) -> io::Result<Tally>
-    ensures { IfOk result (λ counts. MatchResult verdict (λ v. counts ≡ counts_of v) (λ e. (e ≡ Malformed) × (counts ≡ no_cases))) }
+) -> Tally
+    ensures { MatchResult verdict (λ v. result ≡ counts_of v) (λ _. result ≡ no_cases) }
 {
     match verdict {
         Ok(verdict) => {
             if verdict == Verdict::Differs {
-                println!(rt; "{file}, line {line}: differs")?;
+                report(rt, file, line, "differs");
             }
-            Ok(Tally::from(verdict))
+            Tally::from(verdict)
         }
-        Err(FieldError::Malformed) => {
-            println!(rt; "{file}, line {line}: is malformed")?;
-            Ok(Tally::default())
+        Err(error) => {
+            report(rt, file, line, reason(error));
+            Tally::default()
         }
-        Err(FieldError::NoMemory) => Err(io::Error::from(AllocError)),
     }
 }
 
-pub fn print_head(rt: &impl Print) -> io::Result<()> {
-    println!(rt; "   ran  agreed  file mac  set")
+fn reason(error: FieldError) -> &'static str {
+    match error {
+        FieldError::Malformed => "is malformed",
+        FieldError::NoMemory => "finds no memory",
+    }
+}
+
+fn report(rt: &impl Print, file: &[u8], line: u64, what: &str) {
+    put(rt, file);
+    let _ = println!(rt; ", line {line}: {what}");
+}
+
+// Writes the bytes to the standard output. What cannot be written is not reported.
+pub(crate) fn put(rt: &impl Print, bytes: &[u8]) {
+    let _ = rt.write_all(bytes);
+}
+
+pub fn print_head(rt: &impl Print) {
+    let _ = println!(rt; "   ran  agreed  file mac  set");
 }
 
 // A file's row. Its first line is a comment: what stands after the '#' and a blank.
-pub fn print_row(rt: &impl Print, own: Tally, text: &str) -> io::Result<()> {
-    let title = title(text);
-    let [a, b, c, d, ..] = cipher::aes128_cmac(text.as_bytes(), [0; 16]);
-    println!(rt;
-        "{:>6}  {:>6}  {a:02x}{b:02x}{c:02x}{d:02x}  {title}",
+pub fn print_row(rt: &impl Print, own: Tally, text: &[u8]) {
+    let [a, b, c, d, ..] = cipher::aes128_cmac(text, [0; 16]);
+    let _ = print!(rt;
+        "{:>6}  {:>6}  {a:02x}{b:02x}{c:02x}{d:02x}  ",
         own.ran, own.agreed
-    )
+    );
+    put(rt, title(text));
+    put(rt, b"\n");
 }
 
-fn title(text: &str) -> &str {
-    match text.split_once('\n') {
-        Some((first, _)) => first.get(2..).unwrap_or(""),
-        None => "",
-    }
+// What the first line says. One that the text's end cuts short is empty.
+fn title(text: &[u8]) -> &[u8] {
+    let first = text.split_inclusive(|byte| *byte == b'\n').next();
+    let line = first.and_then(|line| line.strip_suffix(b"\n"));
+    line.and_then(|line| line.get(2..)).unwrap_or(&[])
 }
 
-pub fn print_sum(rt: &impl Print, all: Tally) -> io::Result<()> {
-    println!(rt; "{:>6}  {:>6}            all sets", all.ran, all.agreed)
+pub fn print_sum(rt: &impl Print, all: Tally) {
+    let _ = println!(rt; "{:>6}  {:>6}            all sets", all.ran, all.agreed);
 }
 
-// The row for those that depart, with what they are.
-pub fn print_departed(rt: &impl Print, all: Tally, what: &str) -> io::Result<()> {
-    println!(rt; "        {:>6}            {what}", all.departed)
+// The row for those that depart, with what they are and the line's end.
+pub fn print_departed(rt: &impl Print, all: Tally, what: &[u8]) {
+    let _ = print!(rt; "        {:>6}            ", all.departed);
+    put(rt, what);
 }

@@ -9,7 +9,7 @@
 
 mod vector;
 
-use std::io;
+use vector::{Aes, Cbc, Cmac, Des, Ofb, Tdes};
 
 // The files of those sets that have several.
 static AES: [&str; 6] = [
@@ -49,13 +49,13 @@ static OFB: [&str; 7] = [
     "ofb_mmt.txt",
 ];
 
-fn main(rt: HostRuntime) -> io::Result<()> {
-    textfile::print_head(&rt)?;
-    let mut all = vector::run(&rt, &AES, vector::aes)?;
-    all += vector::run(&rt, &DES, vector::des)?;
-    all += vector::run(&rt, &["tdes_mmt.txt"], vector::tdes)?;
-    all += vector::run(&rt, &CBC, vector::cbc)?;
-    all += vector::run(&rt, &OFB, vector::ofb)?;
-    all += vector::run(&rt, &["cmac_sp800_38b.txt"], vector::cmac)?;
-    textfile::print_sum(&rt, all)
+fn main(rt: HostRuntime) {
+    textfile::print_head(&rt);
+    let mut all = vector::run(&rt, &AES, Aes);
+    all += vector::run(&rt, &DES, Des);
+    all += vector::run(&rt, &["tdes_mmt.txt"], Tdes);
+    all += vector::run(&rt, &CBC, Cbc);
+    all += vector::run(&rt, &OFB, Ofb);
+    all += vector::run(&rt, &["cmac_sp800_38b.txt"], Cmac);
+    textfile::print_sum(&rt, all);
 }

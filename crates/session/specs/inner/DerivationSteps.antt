@@ -1,15 +1,13 @@
 -- What the steps of a derivation answer. Assumes nothing.
 use Rattle.std.specs.Prelude.{ℕ, ◌*◌, ◌≡◌, List, [], Option, None, Some, Result, MatchResult, length, take}
 use Rattle.std.specs.Iterator.{AlwaysYields}
-use Rattle.cipher.specs.Fips46.{des_encrypt}
-use Rattle.cipher.specs.Fold.{under_each}
 use Rattle.answer.specs.Outcome.{Row, first_of}
 use Rattle.answer.specs.Refusal.{refusal_number, refusal_node}
 use Rattle.answer.specs.Scheme.{mark_of}
 use Rattle.answer.specs.declared.refusal.Refusal.{Refusal}
 use Rattle.answer.specs.declared.scheme.Scheme.{Scheme}
 use Rattle.session.specs.Entries.{Entry}
-use Rattle.session.specs.Derivation.{Derived, turned_down, DES, needing, key_length, keys_of, derived_by, derived_for}
+use Rattle.session.specs.Derivation.{Derived, turned_down, needing, key_length, keys_of, derived_by, derived_for}
 
 -- the refusal e of a derivation
 unfoldable pub refusing : Refusal → Derived
@@ -43,7 +41,3 @@ pub record Lists {S : Type 0} (steps : S → Option ℕ → S → Type 0) (s : S
 -- its key refuses
 abbrev pub Gathers : List Entry → ℕ → List ℕ → Result ℕ Refusal → List ℕ → Type 0
 Gathers es algorithm ns r w = MatchResult r (λ size. ((d : Derived) → needing es algorithm ns d ≡ d) × (size ≡ length ns * key_length algorithm) × (take size w ≡ keys_of es algorithm ns)) (λ e. (d : Derived) → needing es algorithm ns d ≡ refusing e)
-
--- r is the block under the DES keys of the nodes ns, or such a refusal
-abbrev pub Chains : List Entry → List ℕ → List ℕ → Result (List ℕ) Refusal → Type 0
-Chains es ns block r = MatchResult r (λ b. ((d : Derived) → needing es DES ns d ≡ d) × (b ≡ under_each des_encrypt 8 (keys_of es DES ns) block)) (λ e. (d : Derived) → needing es DES ns d ≡ refusing e)

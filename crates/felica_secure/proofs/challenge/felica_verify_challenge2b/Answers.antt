@@ -1,5 +1,5 @@
-use Rattle.felica_secure.proofs.PackedParts.{meets_returns}
+use Rattle.felica_secure.proofs.PackedParts.{checks_returns}
 use Rattle.felica_secure.proofs.challenge.felica_verify_challenge2b.Goals as goal
 
 pub returns : goal.returns
-returns c = meets_returns _ _ _ _ _ c.verify_challenge2b.ensures c.pack.ensures
+returns c = checks_returns _ _ _ c.is_challenge2b.ensures c.pack_check.ensures

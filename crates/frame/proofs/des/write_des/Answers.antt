@@ -6,7 +6,7 @@ use lib.ListN.{length, take, drop, length-drop}
 use Rattle.frame.specs.DesFrame.{des_size, header}
 use Rattle.answer.proofs.Outputs.{copied_behind}
 use Rattle.frame.proofs.DesOpens.{rest_part}
-use Rattle.frame.proofs.DesSeals.{length_header, written_des}
+use Rattle.frame.proofs.DesSeals.{size_most, length_header, written_des}
 use Rattle.frame.proofs.des.write_des.Goals as goal
 
 pub write-requires : goal.write-requires
@@ -36,4 +36,4 @@ returns c =
     let f : length p ≤ length (take (length s - 8) (drop 8 s)) = rw (rest_part s 8, length-drop) (omega arith) in
     let e = copied_behind (header h.transaction_number h.transaction_id) o s 8 (length_header h.transaction_number h.transaction_id six) c.write.ensures p (length s - 8) f _ c.copy.ensures in
     let w = written_des c.args.code h.transaction_number _ c.args.key h.transaction_id p o _ _ six e c.seal_front.ensures.front in
-    record { size = (w.0, w.1); padding = c.seal_front.ensures.padding; out_after = w.2 }
+    (w.0, omega (arith, w.0, size_most _ c.requires.payload_len_bound), w.1, w.2, c.seal_front.ensures.padding)

@@ -21,4 +21,4 @@ returns c =
     (challenge_3c_is k (omega arith) (omega arith)) c.build_initial_vector_v2_aes128-iv.ensures (mac_key_is k (omega arith) (omega arith)) c.calculate_mac_v2_aes128-mac.ensures (omega (arith, c.calculate_mac_v2_aes128-mac.type_inv))
     (c.copy_from_slice.ensures.after ∙ c.to_le_bytes.ensures) c.copy.ensures refl (cipher_key_is k (omega arith) (omega arith)) c.apply_aes128_ofb_parts.ensures.first_after c.apply_aes128_ofb_parts.auto.first refl
     c.apply_aes128_ofb_parts.ensures.second_after c.apply_aes128_ofb_parts.auto.second c.copy_from_slice-2.ensures.after in
-    record { size = w.0; out_after = w.1 }
+    (refl, omega arith, w.0, w.1, refl)

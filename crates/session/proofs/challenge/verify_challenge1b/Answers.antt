@@ -1,44 +1,6 @@
 use borrow.Author.Rules.{rules}
-use Rattle.session.specs.Challenge.{checking_1b}
-use Rattle.session.proofs.Challenges.{wrong_3c, wrong_before_3c, right_3c, check_refused, checks, either_first, given_wrong, given_right, des_size, aes_size, des_under_beta, aes_under_beta}
+use Rattle.session.proofs.Challenges.{refused_compares}
 use Rattle.session.proofs.challenge.verify_challenge1b.Goals as goal
 
-pub returns-in_err-challenge_3c : goal.returns-in_err-challenge_3c
-unfolding checking_1b
-returns-in_err-challenge_3c c =
-    let e = c.in_err-challenge_3c.ensures in
-    check_refused _ _ _ _ (either_first _ _ (wrong_3c _ _ _ _ _ e.0)) c.in_err-challenge_3c.field-0.0 (search rules) e.1
-
-pub returns-in_err-context : goal.returns-in_err-context
-unfolding checking_1b
-returns-in_err-context c =
-    let e = c.in_err-context.ensures in
-    check_refused _ _ _ _ (either_first _ _ (wrong_before_3c _ _ _ _ _ e.0)) c.in_err-context.field-0.0 (search rules) e.1
-
-pub returns-in_err-challenge-in-Des : goal.returns-in_err-challenge-in-Des
-unfolding checking_1b
-returns-in_err-challenge-in-Des c =
-    let p = c.in_ok-context.ensures in
-    let e = c.in_err-challenge-in-Des.ensures in
-    check_refused _ _ _ _ (given_wrong _ _ _ 8 (des_size _ _ _ _ _ p.1 _ _ c.in-Des.is) e.0) c.in_err-challenge-in-Des.field-0.0 (search rules) e.1
-
-pub returns-in_ok-challenge-in-Des : goal.returns-in_ok-challenge-in-Des
-unfolding checking_1b
-returns-in_ok-challenge-in-Des c =
-    let p = c.in_ok-context.ensures in
-    let e = c.in_ok-challenge-in-Des.ensures in
-    checks _ _ _ _ (given_right _ _ _ 8 (des_size _ _ _ _ _ p.1 _ _ c.in-Des.is) (right_3c _ _ _ _ _ p.0 c.in_ok-challenge_3c.ensures.0) e.0) _ _ _ c.verify_challenge1b.ensures e.1 (des_under_beta _ _ _ _ _ p.1 _ _ c.in-Des.is c.args.challenge_3c.now) c.accept.ensures
-
-pub returns-in_err-challenge-in-Aes128 : goal.returns-in_err-challenge-in-Aes128
-unfolding checking_1b
-returns-in_err-challenge-in-Aes128 c =
-    let p = c.in_ok-context.ensures in
-    let e = c.in_err-challenge-in-Aes128.ensures in
-    check_refused _ _ _ _ (given_wrong _ _ _ 16 (aes_size _ _ _ _ _ p.1 _ _ c.in-Aes128.is) e.0) c.in_err-challenge-in-Aes128.field-0.0 (search rules) e.1
-
-pub returns-in_ok-challenge-in-Aes128 : goal.returns-in_ok-challenge-in-Aes128
-unfolding checking_1b
-returns-in_ok-challenge-in-Aes128 c =
-    let p = c.in_ok-context.ensures in
-    let e = c.in_ok-challenge-in-Aes128.ensures in
-    checks _ _ _ _ (given_right _ _ _ 16 (aes_size _ _ _ _ _ p.1 _ _ c.in-Aes128.is) (right_3c _ _ _ _ _ p.0 c.in_ok-challenge_3c.ensures.0) e.0) _ _ _ c.verify_challenge1b-in-Aes128.ensures e.1 (aes_under_beta _ _ _ _ _ p.1 _ _ c.in-Aes128.is _ _ c.in_ok-challenge_3c.ensures.1) c.accept-in-Aes128.ensures
+pub returns-in_err-is_challenge1b : goal.returns-in_err-is_challenge1b
+returns-in_err-is_challenge1b c = refused_compares _ _ c.in_err-is_challenge1b.field-0.0 (search rules) c.in_err-is_challenge1b.ensures

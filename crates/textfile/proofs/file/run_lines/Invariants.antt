@@ -1,6 +1,6 @@
--- The counts so far are counts, and the closure may be called again.
+-- The counts so far are counts.
 use Rattle.textfile.specs.Table.{AreCounts}
 use Rattle.textfile.proofs.file.run_lines.Given as goal
 
 abbrev pub invariant-loop-number : goal.invariant-loop-number
-invariant-loop-number g l = goal.F-IsAlwaysCallable g l.judge × AreCounts l.own
+invariant-loop-number g l = AreCounts l.own
