@@ -4,6 +4,7 @@ ghost use Rattle.textfile.specs.Table.{AreCounts};
 
 use crate::field::FieldError;
 use crate::table::{self, Tally, Verdict};
+use std::alloc::{AllocError, Global};
 use std::fs;
 use std::io::Read;
 use std::rt::Files;
@@ -72,7 +73,7 @@ fn read_full(file: &mut impl Read, buffer: &mut [u8]) -> usize
     done
 }
 
-// The counts of a text's cases. Bytes that are no text are read as the character for these, which no field has.
+// The counts of a text's cases. Where bytes are no text, all that are not ASCII are read as '?', which no field has.
 fn run_text<R: Print + AllocGlobal, J: Judge>(
     rt: &R,
     file: &str,
@@ -84,13 +85,23 @@ fn run_text<R: Print + AllocGlobal, J: Judge>(
     if let Ok(text) = str::from_utf8(text) {
         return run_lines(rt, file, text, judge);
     }
-    match String::from_utf8_lossy(rt.alloc(), text) {
+    match in_ascii(rt.alloc(), text) {
         Ok(text) => run_lines(rt, file, text.as_str(), judge),
         Err(_) => {
             let _ = println!(rt; "{file}: finds no memory");
             Tally::default()
         }
     }
+}
+
+fn in_ascii(alloc: Global, text: &[u8]) -> Result<String, AllocError> {
+    let mut bytes = text.to_vec(alloc)?;
+    for byte in bytes.iter_mut() {
+        if !byte.is_ascii() {
+            *byte = b'?';
+        }
+    }
+    String::from_utf8_lossy(alloc, bytes.as_slice())
 }
 
 // The same of text. A line that starts with '#' is no case, and one that the text's end cuts short is empty.
