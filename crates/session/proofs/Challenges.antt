@@ -165,23 +165,19 @@ with_3c_lem s keys idm block c3 t e h =
     let f = either_false (wrong s keys idm block) (isnt (eqb c3 4)) (sym e ∙ h) in
     (f.0, is_number c3 4 f.1)
 
--- a challenge that is not as long as the random: one of the two is wrong
+-- a challenge that is not as long as the random, whose length is right where w is false: one of the two is wrong
+unequal : (w : Bool) (size given random : ℕ) → given ≢ random → (w ≡ false → random ≡ size) → either w (isnt (eqb given size)) ≡ true
+unequal true size given random other right = either_first true _ refl
+unequal false size given random other right = either_second false _ (wrong_length given size (λ k. other (k ∙ sym (right refl))))
+
 module _ (s keys idm random given : ℕ) (other : given ≢ random) where
   pub unequal_wrong : either (wrong s keys idm random) (isnt (eqb given (block_size s))) ≡ true
-  unequal_wrong = go (wrong s keys idm random) refl
-    where
-      go : (w : Bool) → wrong s keys idm random ≡ w → either w (isnt (eqb given (block_size s))) ≡ true
-      go true e = either_first true _ refl
-      go false e = either_second false _ (wrong_length given _ (λ k. other (k ∙ sym (lengths s keys idm random e _ _ refl refl).1)))
+  unequal_wrong = unequal (wrong s keys idm random) (block_size s) given random other (λ e. (lengths s keys idm random e _ _ refl refl).1)
 
   pub unequal_wrong_3c : (c3 : ℕ) → either (wrong_with_3c s keys idm random c3) (isnt (eqb given (block_size s))) ≡ true
-  unequal_wrong_3c c3 = go (wrong_with_3c s keys idm random c3) refl
-    where
-      go : (w : Bool) → wrong_with_3c s keys idm random c3 ≡ w → either w (isnt (eqb given (block_size s))) ≡ true
-      go true e = either_first true _ refl
-      go false e =
-          let right = (with_3c_lem s keys idm random c3 false (sym e) refl).0 in
-          either_second false _ (wrong_length given _ (λ k. other (k ∙ sym (lengths s keys idm random right _ _ refl refl).1)))
+  unequal_wrong_3c c3 =
+      unequal (wrong_with_3c s keys idm random c3) (block_size s) given random other
+      (λ e. (lengths s keys idm random (with_3c_lem s keys idm random c3 _ refl e).0 _ _ refl refl).1)
 
 -- ---- the contexts
 

@@ -4,7 +4,7 @@ ghost use Rattle.textfile.specs.Table.{AreCounts};
 
 use crate::field::FieldError;
 use crate::table::{self, Tally, Verdict};
-use std::alloc::{AllocError, Global};
+use std::alloc::Global;
 use std::fs;
 use std::io::Read;
 use std::rt::Files;
@@ -86,22 +86,22 @@ fn run_text<R: Print + AllocGlobal, J: Judge>(
         return run_lines(rt, file, text, judge);
     }
     match in_ascii(rt.alloc(), text) {
-        Ok(text) => run_lines(rt, file, text.as_str(), judge),
-        Err(_) => {
+        Some(text) => run_lines(rt, file, text.as_str(), judge),
+        None => {
             let _ = println!(rt; "{file}: finds no memory");
             Tally::default()
         }
     }
 }
 
-fn in_ascii(alloc: Global, text: &[u8]) -> Result<String, AllocError> {
-    let mut bytes = text.to_vec(alloc)?;
+fn in_ascii(alloc: Global, text: &[u8]) -> Option<String> {
+    let mut bytes = text.to_vec(alloc).ok()?;
     for byte in bytes.iter_mut() {
         if !byte.is_ascii() {
             *byte = b'?';
         }
     }
-    String::from_utf8_lossy(alloc, bytes.as_slice())
+    String::from_utf8(bytes).ok()
 }
 
 // The same of text. A line that starts with '#' is no case, and one that the text's end cuts short is empty.
