@@ -10,7 +10,7 @@ use lib.Dec.{ltb}
 use lib.ListN.{length, take, drop}
 use lib.Seq.{take_at}
 use Rattle.cipher.proofs.Numbers.{le_or_lt}
-use Rattle.std.specs.Prelude.{Err}
+use Rattle.std.specs.Prelude.{Result, Ok, Err}
 use Rattle.answer.specs.declared.refusal.Refusal.{Refusal}
 use Rattle.answer.specs.Refusal.{refusal_number}
 use Rattle.answer.specs.Delivery.{handing, Delivers}
@@ -20,7 +20,11 @@ use Rattle.answer.proofs.Rows.{numbered, decide_false, first_refuses, first_pass
 use Rattle.frame.specs.AesFrame.{aes_sealed, aes_size, aes_seal_rows}
 use Rattle.frame.specs.DesFrame.{des_sealed, des_size, seal_rows}
 use Rattle.frame.specs.declared.sealed.Sealed.{Sealed}
-use Rattle.frame.specs.inner.WorkBlock.{SealsInto}
+use Rattle.frame.specs.declared.des.SecureResponseHeader.{SecureResponseHeader}
+use Rattle.frame.specs.declared.v2_aes.Credentials.{Credentials}
+use Rattle.frame.specs.inner.AesSteps.{bytes_of, ChecksAes}
+use Rattle.frame.specs.inner.DesSteps.{ChecksDes}
+use Rattle.frame.specs.inner.WorkBlock.{WritesSealed, SealsInto}
 use Rattle.frame.specs.Padding.{pad_count}
 use Rattle.frame.specs.Scheme.{by_scheme, sealing, framed, framing, responding}
 use Rattle.frame.proofs.AesSeals.{aes_seal_steps}
@@ -60,6 +64,28 @@ framing_handing code room p b some =
     ap (framing code) (no_room 0 p b (room - 2) (omega arith)) ∙ framing_refusal code 16 (λ e. omega arith) ∙ sym (no_room 0 p (framed code b) room (omega arith)))
     (le_or_lt (length b + 2) room)
 
+-- ---- both steps of a sealing into a work block: a check of the lengths, and what is written where it passes
+
+-- sealing into a work block was refused by lengths
+pub not_sealed : (rs : List Row) (b : List ℕ) (size p : ℕ) (e : Refusal) (w : List ℕ) {r : Result Sealed Refusal} → r ≡ Err e → first_of rs ≡ refusal_number e → SealsInto rs b size p r w w
+not_sealed rs b size p e w {r} q h = rw q h
+
+-- it was not, so it was written
+pub sealed_into : (rs : List Row) (b : List ℕ) (size p : ℕ) (d : Sealed) (z w : List ℕ) → first_of rs ≡ 0 → WritesSealed b size p d z w → SealsInto rs b size p (Ok d) z w
+sealed_into rs b size p d z w h s = (h, s.0, omega arith, s.2, s.3, s.4)
+
+-- what is written is sealed under what was checked
+module _ (code number : ℕ) (id c payload : List ℕ) (size p : ℕ) (d : Sealed) (z w : List ℕ) where
+  pub des_sealed_into : (k : SecureResponseHeader × List ℕ) → ChecksDes number id c (length payload) (Ok k)
+      → WritesSealed (des_sealed k.1 code k.0.transaction_number k.0.transaction_id payload) size p d z w
+      → SealsInto (seal_rows (length id) (length c) (length payload)) (des_sealed c code number id payload) size p (Ok d) z w
+  des_sealed_into k h s = sealed_into (seal_rows (length id) (length c) (length payload)) (des_sealed c code number id payload) size p d z w h.0 (rw (h.2, h.3, h.4) at s)
+
+  pub aes_sealed_into : (k : List ℕ × Credentials) → ChecksAes id c (length payload) (Ok k)
+      → WritesSealed (aes_sealed (bytes_of k.1) code number k.0 payload) size p d z w
+      → SealsInto (aes_seal_rows (length id) (length c) (length payload)) (aes_sealed c code number id payload) size p (Ok d) z w
+  aes_sealed_into k h s = sealed_into (aes_seal_rows (length id) (length c) (length payload)) (aes_sealed c code number id payload) size p d z w h.0 (rw (h.2, h.3) at s)
+
 -- ---- what goes out
 
 -- rows by lengths, then 16 by a size, then the sealed data b with p bytes of padding
@@ -77,12 +103,12 @@ module _ (rs : List Row) (b : List ℕ) (size p : ℕ) where
   passed some h o = decide_false rs o (first_passes rs 0 some (sym h) refl)
 
   -- the bytes that were sealed over the front of the work block z are delivered, with their padding
-  module _ (some : numbered rs ≡ true) (h : first_of rs ≡ 0) (d : Sealed) (z w : List ℕ) (s : SealsInto b size p d z w) (room : ℕ) {r : Answer} {before after : List ℕ} where
+  module _ (some : numbered rs ≡ true) (d : Sealed) (z w : List ℕ) (s : SealsInto rs b size p (Ok d) z w) (room : ℕ) {r : Answer} {before after : List ℕ} where
     pub delivered : Delivers (handing (padded d.padding (take d.size w)) room) r before after → Meets (sealing_of room) r before after
     delivered m =
-        let f : take d.size w ≡ b = front b z w d.size (sym (s.0 ∙ s.2)) s.3 in
+        let f : take d.size w ≡ b = front b z w d.size (sym (s.1 ∙ s.3)) s.4 in
         let l : length b ≤ 65535 = omega arith in
-        rw (passed some h (decide (row 16 (ltb room size) ∷ []) (padded p b)), sized_handing size room p b s.2) (delivers_meets 0 p b room (rw (f, s.4) at m) l)
+        rw (passed some s.0 (decide (row 16 (ltb room size) ∷ []) (padded p b)), sized_handing size room p b s.3) (delivers_meets 0 p b room (rw (f, s.5) at m) l)
 
     -- and in a frame: w' is the work block, which has length byte and code before w
     pub delivered_frame : (code : ℕ) (w' : List ℕ) → 0 < size → take (d.size + 2) w' ≡ framed code b → Delivers (handing (padded d.padding (take (d.size + 2) w')) room) r before after
@@ -90,8 +116,8 @@ module _ (rs : List Row) (b : List ℕ) (size p : ℕ) where
     unfolding framed
     delivered_frame code w' more e m =
         let l : length (framed code b) ≤ 65535 = omega arith in
-        rw (passed some h (decide (row 16 (ltb (room - 2) size) ∷ []) (padded p b)), sized_handing size (room - 2) p b s.2, framing_handing code room p b (omega arith))
-        (delivers_meets 0 p (framed code b) room (rw (e, s.4) at m) l)
+        rw (passed some s.0 (decide (row 16 (ltb (room - 2) size) ∷ []) (padded p b)), sized_handing size (room - 2) p b s.3, framing_handing code room p b (omega arith))
+        (delivers_meets 0 p (framed code b) room (rw (e, s.5) at m) l)
 
 -- length byte and code stand before the sealed data b, which was written from the third byte on
 pub frame_front : (n code : ℕ) (b w x last rest w' : List ℕ) → n ≡ length b → 2 ≤ length w → last ≡ over b x → w' ≡ over ((n + 2) ∷ code ∷ []) (take 2 w ++ (last ++ rest)) → take (n + 2) w' ≡ framed code b

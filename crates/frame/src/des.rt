@@ -7,7 +7,7 @@ ghost use Rattle.frame.specs.Padding.{pad_count, pad};
 ghost use Rattle.frame.specs.DesFrame.{mac_start, des_mac, mac_holds, des_seal, header, des_sealed, des_size, des_sealing, des_plain, des_opening};
 ghost use Rattle.frame.specs.inner.DesSteps.{ChecksDes, ChecksOpenDes, des_accepting};
 ghost use Rattle.frame.specs.inner.Response.{header_of, PayloadIn, ParsesOr13, checked_delivering};
-ghost use Rattle.frame.specs.inner.WorkBlock.{HasSize, SealsInto};
+ghost use Rattle.frame.specs.inner.WorkBlock.{HasSize, WritesSealed};
 ghost use Rattle.frame.specs.Authentication2.{auth2_sealing, auth2_accepting, auth2_opening};
 ghost use Rattle.frame.specs.Scheme.{responding};
 ghost use Rattle.frame.specs.Trimmed.{is_padding, trim_count, trim, trimmed_opening};
@@ -382,7 +382,7 @@ fn write_des(
 ) -> Sealed
     requires payload_len_bound { length payload.now ≤ 232 }
     requires payload_in_bounds { des_size (length payload.now) ≤ length out.old }
-    ensures { SealsInto (des_sealed key code head.transaction_number head.transaction_id payload.now) (des_size (length payload.now)) (pad_count (length payload.now + 8)) result out.old out.new }
+    ensures { WritesSealed (des_sealed key code head.transaction_number head.transaction_id payload.now) (des_size (length payload.now)) (pad_count (length payload.now + 8)) result out.old out.new }
 {
     head.write(out);
     cipher::copy(payload, &mut out[8..]);

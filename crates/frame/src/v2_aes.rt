@@ -6,7 +6,7 @@ ghost use Rattle.answer.specs.Delivery.{Delivers};
 ghost use Rattle.answer.specs.Number.{number_bytes};
 ghost use Rattle.answer.specs.Outcome.{Meets};
 ghost use Rattle.frame.specs.inner.AesSteps.{bytes_of, HasAll, ChecksAes, ChecksOpenAes, Splits, aes_accepting, aes_trying};
-ghost use Rattle.frame.specs.inner.WorkBlock.{HasSize, SealsInto};
+ghost use Rattle.frame.specs.inner.WorkBlock.{HasSize, WritesSealed};
 ghost use Rattle.frame.specs.Authentication2.{auth2_opening_aes};
 ghost use Rattle.frame.specs.Scheme.{responding};
 ghost use Rattle.frame.specs.AesFrame.{aes_iv, aes_mac, aes_sealed, aes_size, aes_sealing, aes_opening};
@@ -129,7 +129,7 @@ fn write_aes(
 ) -> Sealed
     requires payload_len_bound { length payload.now ≤ 243 }
     requires payload_in_bounds { length payload.now + 10 ≤ length out.old }
-    ensures { SealsInto (aes_sealed (bytes_of credentials) code number id payload.now) (aes_size (length payload.now)) 0 result out.old out.new }
+    ensures { WritesSealed (aes_sealed (bytes_of credentials) code number id payload.now) (aes_size (length payload.now)) 0 result out.old out.new }
 {
     let n = payload.len();
     let end = n + 2;

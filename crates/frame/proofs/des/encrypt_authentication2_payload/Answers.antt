@@ -53,5 +53,5 @@ returns c =
     let q = sealed_over auth2_code (length p) _ c.in_ok-key.key p (replicate 256 0) _ _ refl (copied_over p (replicate 256 0) _ (omega arith) c.copy.ensures) c.seal_front-sealed.ensures.front in
     let b : des_seal c.in_ok-key.key auth2_code (pad p) ≡ des_seal a.key.now auth2_code (pad p) = ap (λ (k : List ℕ). des_seal k auth2_code (pad p)) k.1 in
     rw (auth2_seal_steps a.key.now p (length o))
-    (delivered (auth2_seal_rows (length a.key.now) (length p)) (des_seal a.key.now auth2_code (pad p)) (length p + pad_count (length p) + 8) (pad_count (length p)) refl (rw (eq-eqb _ _ k.0, le-ltb _ _ l)) c.seal_front-sealed.result (replicate 256 0) c.seal_front-sealed.new.out
-    (c.seal_front-sealed.ensures.front.0, omega arith, sym c.seal_front-sealed.ensures.front.0 ∙ q.0 ∙ ap length b, q.1 ∙ ap (λ (z : List ℕ). over z (replicate 256 0)) b, c.seal_front-sealed.ensures.padding) (length o) c.deliver.ensures)
+    (delivered (auth2_seal_rows (length a.key.now) (length p)) (des_seal a.key.now auth2_code (pad p)) (length p + pad_count (length p) + 8) (pad_count (length p)) refl c.seal_front-sealed.result (replicate 256 0) c.seal_front-sealed.new.out
+    (rw (eq-eqb _ _ k.0, le-ltb _ _ l), c.seal_front-sealed.ensures.front.0, omega arith, sym c.seal_front-sealed.ensures.front.0 ∙ q.0 ∙ ap length b, q.1 ∙ ap (λ (z : List ℕ). over z (replicate 256 0)) b, c.seal_front-sealed.ensures.padding) (length o) c.deliver.ensures)

@@ -8,7 +8,7 @@ use Rattle.answer.proofs.Rows.{numbered, row_meets}
 use Rattle.frame.specs.DesFrame.{des_sealed, des_size, seal_rows}
 use Rattle.frame.specs.Padding.{pad_count}
 use Rattle.frame.proofs.DesSeals.{size_most, seal_steps}
-use Rattle.frame.proofs.WorkBlocks.{delivered}
+use Rattle.frame.proofs.WorkBlocks.{des_sealed_into, delivered}
 use Rattle.frame.proofs.des.encrypt_secure_request_des.Goals as goal
 
 pub returns-in_err-head : goal.returns-in_err-head
@@ -24,4 +24,4 @@ unfolding numbered both seal_rows
 returns c =
     let a = c.args in
     rw (seal_steps a.key.now a.id.now a.payload.now a.code a.number (length a.out.now))
-    (delivered (seal_rows (length a.id.now) (length a.key.now) (length a.payload.now)) (des_sealed a.key.now a.code a.number a.id.now a.payload.now) (des_size (length a.payload.now)) (pad_count (length a.payload.now + 8)) refl c.in_ok-head.ensures.0 _ (replicate 256 0) _ (rw (c.in_ok-head.ensures.2, c.in_ok-head.ensures.3, c.in_ok-head.ensures.4) at c.write_des-sealed.ensures) (length a.out.now) c.deliver.ensures)
+    (delivered (seal_rows (length a.id.now) (length a.key.now) (length a.payload.now)) (des_sealed a.key.now a.code a.number a.id.now a.payload.now) (des_size (length a.payload.now)) (pad_count (length a.payload.now + 8)) refl _ (replicate 256 0) _ (des_sealed_into a.code a.number a.id.now a.key.now a.payload.now _ _ _ (replicate 256 0) _ _ c.in_ok-head.ensures c.write_des-sealed.ensures) (length a.out.now) c.deliver.ensures)
