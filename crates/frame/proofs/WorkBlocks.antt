@@ -74,6 +74,10 @@ not_sealed rs b size p e w {r} q h = rw q h
 pub sealed_into : (rs : List Row) (b : List ℕ) (size p : ℕ) (d : Sealed) (z w : List ℕ) → first_of rs ≡ 0 → WritesSealed b size p d z w → SealsInto rs b size p (Ok d) z w
 sealed_into rs b size p d z w h s = (h, s.0, omega arith, s.2, s.3, s.4)
 
+-- and the other way round
+pub written_of_sealed : (rs : List Row) (b : List ℕ) (size p : ℕ) (d : Sealed) (z w : List ℕ) → SealsInto rs b size p (Ok d) z w → (first_of rs ≡ 0) × WritesSealed b size p d z w
+written_of_sealed rs b size p d z w s = (s.0, (s.1, omega arith, s.3, s.4, s.5))
+
 -- what is written is sealed under what was checked
 module _ (code number : ℕ) (id c payload : List ℕ) (size p : ℕ) (d : Sealed) (z w : List ℕ) where
   pub des_sealed_into : (k : SecureResponseHeader × List ℕ) → ChecksDes number id c (length payload) (Ok k)
