@@ -19,7 +19,7 @@
 -- Schemes: what a scheme mark chooses, and the forecast
 -- Sealing: when sealing answers with the sealed data
 -- Trims: trimming, and the trimmed opening
--- WorkBlocks: what was sealed in a work block and goes out last
+-- WorkBlocks: sealing into a work block, and what was sealed there and goes out last
 pub mod AesOpens
 pub mod AesSeals
 pub mod AesTrip

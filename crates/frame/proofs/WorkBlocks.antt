@@ -1,4 +1,5 @@
--- What was sealed in a work block and goes out last: the sealing, and the response frame around it. Assumes nothing.
+-- Sealing into a work block, which is a check of lengths and then a writing; and what was sealed there and goes out last: the sealing, and the
+-- response frame around it. Assumes nothing.
 use mathlib.Core.Path.{◌≡◌, refl, sym, ap, ◌∙◌}
 use mathlib.Core.List.{List, [], ◌∷◌, ◌++◌, append_assoc}
 use mathlib.Core.Bool.{true}
@@ -64,17 +65,17 @@ framing_handing code room p b some =
     ap (framing code) (no_room 0 p b (room - 2) (omega arith)) ∙ framing_refusal code 16 (λ e. omega arith) ∙ sym (no_room 0 p (framed code b) room (omega arith)))
     (le_or_lt (length b + 2) room)
 
--- ---- both steps of a sealing into a work block: a check of the lengths, and what is written where it passes
+-- ---- sealing into a work block: a check of lengths, and a writing where it passes
 
--- sealing into a work block was refused by lengths
+-- it was refused by lengths
 pub not_sealed : (rs : List Row) (b : List ℕ) (size p : ℕ) (e : Refusal) (w : List ℕ) {r : Result Sealed Refusal} → r ≡ Err e → first_of rs ≡ refusal_number e → SealsInto rs b size p r w w
 not_sealed rs b size p e w {r} q h = rw q h
 
--- it was not, so it was written
+-- it passed, and was written
 pub sealed_into : (rs : List Row) (b : List ℕ) (size p : ℕ) (d : Sealed) (z w : List ℕ) → first_of rs ≡ 0 → WritesSealed b size p d z w → SealsInto rs b size p (Ok d) z w
 sealed_into rs b size p d z w h s = (h, s.0, omega arith, s.2, s.3, s.4)
 
--- and the other way round
+-- and the other way round: no fact of the writing is lost
 pub written_of_sealed : (rs : List Row) (b : List ℕ) (size p : ℕ) (d : Sealed) (z w : List ℕ) → SealsInto rs b size p (Ok d) z w → (first_of rs ≡ 0) × WritesSealed b size p d z w
 written_of_sealed rs b size p d z w s = (s.0, (s.1, omega arith, s.3, s.4, s.5))
 
